@@ -1,0 +1,14 @@
+pub mod Sums
+pub mod Largest
+pub mod Capacity
+pub mod Raise
+pub mod Growing
+pub mod Steps
+pub mod Majorization
+pub mod Strict
+pub mod Hyperperiod
+pub mod Retire
+pub mod Feasible
+pub mod Tables
+pub mod AcceptanceTrials
+pub mod Results

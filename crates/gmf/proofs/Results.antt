@@ -1,0 +1,43 @@
+-- The method's claims, proved.
+use Rattle.gmf.specs.Jobs.{hyperperiod, works}
+use Rattle.gmf.specs.Growing.{planOf}
+use Rattle.gmf.specs.Claims.{PlansJobs, Method}
+use Rattle.gmf.proofs.Largest.{largest-rule}
+use Rattle.gmf.proofs.Capacity.{same-tests}
+use Rattle.gmf.proofs.Raise.{finds-slowest}
+use Rattle.gmf.proofs.Growing.{finds-least, finds-none}
+use Rattle.gmf.proofs.Steps.{follows-text, paper-loop}
+use Rattle.gmf.proofs.Majorization.{least-power}
+use Rattle.gmf.proofs.Strict.{only-plan}
+use Rattle.gmf.proofs.Hyperperiod.{least-common}
+use Rattle.gmf.proofs.Retire.{retires}
+use Rattle.gmf.proofs.Feasible.{fits-when-passes}
+use Rattle.gmf.proofs.Tables.{cubes-hold, default-table}
+use Rattle.gmf.proofs.AcceptanceTrials.{trials-hold}
+
+pub plans-jobs : PlansJobs
+unfolding planOf
+plans-jobs M pm pl jobs = record {
+  found = finds-least M pm pl (hyperperiod jobs) (works jobs);
+  none = finds-none M pm pl (hyperperiod jobs) (works jobs);
+}
+
+pub method : Method
+method = record {
+  finds-least = finds-least;
+  finds-none = finds-none;
+  least-power = least-power;
+  only-plan = only-plan;
+  same-tests = same-tests;
+  largest-rule = largest-rule;
+  finds-slowest = finds-slowest;
+  follows-text = follows-text;
+  paper-loop = paper-loop;
+  least-common = least-common;
+  plans-jobs = plans-jobs;
+  retires = retires;
+  fits-when-passes = fits-when-passes;
+  cubes = cubes-hold;
+  default-table = default-table;
+  trials = trials-hold;
+}

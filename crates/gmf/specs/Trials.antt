@@ -1,0 +1,72 @@
+-- 01's trials with known results, those marked *, as one list.
+use Prim.Native.Nat.{ℕ, suc}
+use mathlib.Core.Path.{_≡_}
+use mathlib.Core.Bool.{false}
+use mathlib.Core.List.{List, [], _∷_, map}
+use Rattle.gmf.specs.declared.Machine.{Machine}
+use Rattle.gmf.specs.declared.Job.{Job}
+use Rattle.gmf.specs.Jobs.{hyperperiod, works}
+use Rattle.gmf.specs.Growing.{Growth, Grown, NoPlan, holds, planOf}
+use Rattle.gmf.specs.Power.{total, defaultTable}
+
+-- "Quarters: b = 1, d = 1, L = 4."
+unfoldable pub quarters : ℕ → Machine
+quarters m = record { processors = m; levels = 4; lowest = 1; step = 1 }
+
+-- Jobs with the ids from `id` on, each given as C over T.
+unfoldable pub jobsFrom : ℕ → List (ℕ × ℕ) → List Job
+jobsFrom id [] = []
+jobsFrom id ((cost, period) ∷ shares) = record { id = id; cost = cost; period = period } ∷ jobsFrom (suc id) shares
+
+-- H, levels, raises and total power under the default table; or the number of a refusal.
+pub data Outcome : Type 0 where
+  Planned : ℕ → List ℕ → ℕ → ℕ → Outcome
+  Refused : ℕ → Outcome
+
+unfoldable pub filed : Machine → List Job → Growth → Outcome
+filed M jobs (Grown plan raises) = Planned (hyperperiod jobs) plan raises (total (defaultTable M) plan)
+filed M jobs NoPlan = Refused 17
+
+unfoldable pub outcomeOf : Machine → List Job → Outcome
+outcomeOf M jobs = filed M jobs (planOf M jobs)
+
+-- m processors in quarters, jobs as C over T, and the result.
+pub record Trial : Type 0 where
+  pub processors : ℕ
+  pub jobs : List (ℕ × ℕ)
+  pub result : Outcome
+
+unfoldable pub trials : List Trial
+trials =
+    record { processors = 4; jobs = []; result = Planned 1 (0 ∷ 0 ∷ 0 ∷ 0 ∷ []) 0 4 }
+    ∷ record { processors = 4; jobs = (1, 2) ∷ []; result = Planned 2 (1 ∷ 0 ∷ 0 ∷ 0 ∷ []) 1 11 }
+    ∷ record { processors = 1; jobs = (1, 2) ∷ (1, 2) ∷ []; result = Planned 2 (3 ∷ []) 3 64 }
+    ∷ record { processors = 1; jobs = (1, 2) ∷ (1, 2) ∷ (1, 2) ∷ []; result = Refused 17 }
+    ∷ record { processors = 1; jobs = (25, 100) ∷ []; result = Planned 100 (0 ∷ []) 0 1 }
+    ∷ record { processors = 1; jobs = (26, 100) ∷ []; result = Planned 100 (1 ∷ []) 1 8 }
+    ∷ record { processors = 1; jobs = (10, 10) ∷ []; result = Planned 10 (3 ∷ []) 3 64 }
+    ∷ record { processors = 1; jobs = (11, 10) ∷ []; result = Refused 17 }
+    ∷ record { processors = 2; jobs = (4, 4) ∷ (1, 4) ∷ []; result = Planned 4 (3 ∷ 0 ∷ []) 3 65 }
+    ∷ record {
+      processors = 4;
+      jobs = (10, 10) ∷ (9, 10) ∷ (6, 10) ∷ (5, 10) ∷ (1, 10) ∷ [];
+      result = Planned 10 (3 ∷ 3 ∷ 2 ∷ 1 ∷ []) 9 163;
+    }
+    ∷ record {
+      processors = 4;
+      jobs = (20, 20) ∷ (18, 20) ∷ (12, 20) ∷ (10, 20) ∷ (5, 20) ∷ [];
+      result = Planned 20 (3 ∷ 3 ∷ 2 ∷ 1 ∷ []) 9 163;
+    }
+    ∷ []
+
+unfoldable pub run : Trial → Outcome
+run t = outcomeOf (quarters (t .processors)) (jobsFrom 1 (t .jobs))
+
+-- "m 2, jobs 4/4 and 1/4 … Two cores at speed 3 would draw 54 and fail test 1."
+unfoldable pub twoJobs : List Job
+twoJobs = jobsFrom 1 ((4, 4) ∷ (1, 4) ∷ [])
+
+pub record Trials : Type 0 where
+  pub as-listed : map run trials ≡ map (λ t. t .result) trials
+  pub two-at-three-draw : total (defaultTable (quarters 2)) (2 ∷ 2 ∷ []) ≡ 54
+  pub two-at-three-fail : holds (quarters 2) (hyperperiod twoJobs) (works twoJobs) 1 (2 ∷ 2 ∷ []) ≡ false

@@ -1,0 +1,142 @@
+-- The laws of gcd and lcm. Users of the two go by these and never by Euclid's rule.
+use Prim.Native.Nat.{ℕ, zero, suc, _*_, _/_, _%_, _<_, _≤_, _∣_}
+use native.Mathlib.Nat.{
+  dvd-refl,
+  dvd-zero,
+  dvd-trans,
+  dvd-mod-iff,
+  dvd-antisymm,
+  dvd-mul-left,
+  dvd-mul-right,
+  dvd-mul-right-of-dvd,
+  dvd-of-mul-dvd-mul-left,
+  dvd-sub,
+  mul-dvd-mul-left,
+  mul-dvd-mul-right,
+  eq-zero-of-zero-dvd,
+  pos-of-dvd-of-pos,
+  div-mul-cancel,
+  mul-div-cancel',
+  mod-def,
+  mod-lt,
+  mul-assoc,
+  mul-comm,
+  mul-le-mul-right,
+  mul-sub,
+  one-mul,
+  zero-lt-suc,
+}
+use native.Mathlib.Decide.{decLt}
+use native.Mathlib.Omega.{arith}
+use mathlib.Core.Path.{_≡_, refl, sym, ap, _∙_}
+use Rattle.number.specs.Divisors.{euclid, gcd, lcm, IsGcd, IsLcm, Honest}
+
+-- What Euclid's rule keeps: of a number that divides k × a and k × b, that it divides k × g, for every k and not for 1 alone.
+record Kept (a b g : ℕ) : Type 0 where
+  left : g ∣ a
+  right : g ∣ b
+  scaled : (k d : ℕ) → d ∣ k * a → d ∣ k * b → d ∣ k * g
+
+dvd-scaled-mod : (k d a b : ℕ) → d ∣ k * a → d ∣ k * b → d ∣ k * (a % b)
+dvd-scaled-mod k d a b p q =
+    rw (mod-def, mul-sub) (dvd-sub d p (rw (← mul-assoc k b (a / b)) (dvd-mul-right-of-dvd d q (a / b))))
+
+euclid-kept : (turns a b : ℕ) → b < turns → Kept a b (euclid turns a b)
+unfolding euclid
+euclid-kept zero a b h = absurd (omega arith)
+euclid-kept (suc turns) a zero h = record { left = dvd-refl a; right = dvd-zero a; scaled = λ k d p q. p }
+euclid-kept (suc turns) a (suc b) h =
+    let rest = euclid-kept turns (suc b) (a % suc b) (omega (arith, mod-lt a (zero-lt-suc b))) in
+    record {
+      left = dvd-mod-iff _ (rest .left) .0 (rest .right);
+      right = rest .left;
+      scaled = λ k d p q. rest .scaled k d q (dvd-scaled-mod k d a (suc b) p q);
+    }
+
+kept : (a b : ℕ) → Kept a b (gcd a b)
+unfolding gcd
+kept a b = euclid-kept (suc b) a b (omega arith)
+
+pub gcd-is : (a b : ℕ) → IsGcd a b (gcd a b)
+gcd-is a b = record {
+  left = kept a b .left;
+  right = kept a b .right;
+  greatest = λ d p q. rw one-mul at (kept a b .scaled 1 d (rw one-mul p) (rw one-mul q));
+}
+
+pub gcd-unique : {a b g : ℕ} → IsGcd a b g → g ≡ gcd a b
+gcd-unique {a} {b} {g} is =
+    dvd-antisymm (gcd-is a b .greatest g (is .left) (is .right)) (is .greatest (gcd a b) (gcd-is a b .left) (gcd-is a b .right))
+
+pub gcd-zero-right : (a : ℕ) → gcd a 0 ≡ a
+unfolding gcd euclid
+gcd-zero-right a = refl
+
+pub gcd-zero-left : (b : ℕ) → gcd 0 b ≡ b
+gcd-zero-left b = sym (gcd-unique record { left = dvd-zero b; right = dvd-refl b; greatest = λ d p q. q })
+
+-- One turn of Euclid's rule.
+pub gcd-turn : (a b : ℕ) → gcd b (a % b) ≡ gcd a b
+gcd-turn a b =
+    let rest = gcd-is b (a % b) in
+    gcd-unique
+    record {
+      left = dvd-mod-iff _ (rest .left) .0 (rest .right);
+      right = rest .left;
+      greatest = λ d p q. rest .greatest d q (dvd-mod-iff d q .1 p);
+    }
+
+pub gcd-pos : (a b : ℕ) → 0 < a → 0 < gcd a b
+gcd-pos a b h = pos-of-dvd-of-pos (gcd-is a b .left) h
+
+-- The quotient by the gcd may be taken of either number.
+lcm-other : (a b : ℕ) → lcm a b ≡ a * (b / gcd a b)
+unfolding lcm
+lcm-other a b =
+    let g = gcd a b in
+    ap (λ (x : ℕ). a / g * x) (sym (mul-div-cancel' g (gcd-is a b .right)))
+    ∙ sym (mul-assoc (a / g) g (b / g))
+    ∙ ap (λ (x : ℕ). x * (b / g)) (div-mul-cancel g (gcd-is a b .left))
+
+gcd-mul-lcm : (a b : ℕ) → gcd a b * lcm a b ≡ a * b
+unfolding lcm
+gcd-mul-lcm a b = sym (mul-assoc _ _ _) ∙ ap (λ (x : ℕ). x * b) (mul-div-cancel' (gcd a b) (gcd-is a b .left))
+
+-- gcd × lcm is a × b, which divides m × a and m × b, and so m × gcd.
+lcm-divides : (a b m : ℕ) → a ∣ m → b ∣ m → lcm a b ∣ m
+lcm-divides a b m p q = go (decLt 0 a)
+  where
+    go : Dec (0 < a) → lcm a b ∣ m
+    go (yes h) =
+        dvd-of-mul-dvd-mul-left (lcm a b) (gcd-pos a b h)
+        (rw (gcd-mul-lcm, mul-comm (gcd a b) m)
+        (kept a b .scaled m (a * b) (rw (mul-comm m a) (mul-dvd-mul-left b a q)) (mul-dvd-mul-right a p b)))
+    go (no h) = let e : a ≡ 0 = omega arith in rw (eq-zero-of-zero-dvd (rw e at p)) (dvd-zero (lcm a b))
+
+pub lcm-is : (a b : ℕ) → IsLcm a b (lcm a b)
+lcm-is a b = record {
+  left = rw lcm-other (dvd-mul-right a (b / gcd a b));
+  right = unfold lcm in (dvd-mul-left b (a / gcd a b));
+  least = lcm-divides a b;
+}
+
+pub lcm-zero-left : (b : ℕ) → lcm 0 b ≡ 0
+lcm-zero-left b = eq-zero-of-zero-dvd (lcm-is 0 b .left)
+
+pub lcm-zero-right : (a : ℕ) → lcm a 0 ≡ 0
+lcm-zero-right a = eq-zero-of-zero-dvd (lcm-is a 0 .right)
+
+-- It divides a × b, which is above 0.
+pub lcm-pos : (a b : ℕ) → 0 < a → 0 < b → 0 < lcm a b
+lcm-pos a b p q =
+    pos-of-dvd-of-pos (lcm-is a b .least (a * b) (dvd-mul-right a b) (dvd-mul-left b a)) (omega (arith, mul-le-mul-right b p))
+
+pub honest : Honest
+honest = record {
+  gcd-is = gcd-is;
+  lcm-is = lcm-is;
+  gcd-zero-left = gcd-zero-left;
+  gcd-zero-right = gcd-zero-right;
+  lcm-zero-left = lcm-zero-left;
+  lcm-zero-right = lcm-zero-right;
+}
