@@ -10,7 +10,7 @@ use lib.ListN.{length, take, length-take}
 use borrow.Author.Tests.{lt-ltb, le-ltb, le-leb, leb-true}
 use Rattle.gmf.specs.declared.Machine.{Machine}
 use Rattle.gmf.specs.Machine.{speed, top}
-use Rattle.gmf.specs.Capacity.{sum, largest, level, capacity, Passes}
+use Rattle.gmf.specs.Capacity.{sum, largest, capacity, Passes}
 use Rattle.gmf.specs.Growing.{demand, holds}
 use Rattle.gmf.specs.Claims.{SameTests}
 use Rattle.gmf.proofs.Sums.{first}

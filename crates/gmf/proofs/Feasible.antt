@@ -1,9 +1,9 @@
 -- Some plan passes exactly when the plan with every processor at the top does: no cost above its window, and no more work than m × H.
-use Prim.Native.Nat.{ℕ, zero, suc, _+_, _-_, _*_, _≤_, _<_, _∣_, min, zero-le}
-use native.Mathlib.Nat.{le-refl, le-trans, not-suc-le-zero, mul-le-mul-left, mul-le-mul-right, le-of-mul-le-mul-left, le-of-mul-le-mul-right}
+use Prim.Native.Nat.{ℕ, zero, suc, _-_, _*_, _≤_, _<_, _∣_, min, zero-le}
+use native.Mathlib.Nat.{le-refl, not-suc-le-zero, mul-le-mul-left, mul-le-mul-right, le-of-mul-le-mul-left, le-of-mul-le-mul-right}
 use native.Mathlib.Decide.{decLt}
 use native.Mathlib.Omega.{arith}
-use mathlib.Core.Path.{_≡_, refl, ap, sym, _∙_}
+use mathlib.Core.Path.{_≡_, refl, ap, _∙_}
 use mathlib.Core.List.{List, [], _∷_, map}
 use lib.ListN.{length, replicate, length-replicate, getD-replicate}
 use Rattle.gmf.specs.declared.Machine.{Machine}
@@ -12,7 +12,7 @@ use Rattle.gmf.specs.Machine.{speed, top}
 use Rattle.gmf.specs.Jobs.{window, hyperperiod, work, works, Every}
 use Rattle.gmf.specs.Capacity.{sum, largest, level, capacity, IsPlan, Passes}
 use Rattle.gmf.specs.Growing.{demand}
-use Rattle.gmf.specs.Claims.{Timed, SomePasses, Fits, FitsWhenPasses}
+use Rattle.gmf.specs.Claims.{PositiveWindows, Feasible, Fits, FeasibleIffFits}
 use Rattle.gmf.proofs.Sums.{first, first-at-most}
 use Rattle.gmf.proofs.Largest.{largest-zero, largest-nil, largest-cons, largest-some, largest-by-one}
 use Rattle.gmf.proofs.Capacity.{capacity-sum, holds-le, demand-part, demand-whole, tested}
@@ -41,8 +41,8 @@ cost-fits H positive job (_, divides) h =
     le-of-mul-le-mul-right {k = H} (omega (arith, work-whole H job divides, mul-le-mul-right (window job) h)) positive
 
 work-fits : (H : ℕ) (job : Job) → Window H job → job .cost ≤ window job → work H job ≤ H
-work-fits H job (timed, divides) h =
-    le-of-mul-le-mul-right {k = window job} (omega (arith, work-whole H job divides, mul-le-mul-right H h)) timed
+work-fits H job (positive, divides) h =
+    le-of-mul-le-mul-right {k = window job} (omega (arith, work-whole H job divides, mul-le-mul-right H h)) positive
 
 -- ---- The plan with every processor at the top
 
@@ -58,21 +58,21 @@ first-of-same zero v (suc k) h = absurd (not-suc-le-zero h)
 first-of-same (suc n) v (suc k) h = omega (arith, first-of-same n v k (omega arith))
 
 module _ (M : Machine) (processors : 0 < M .processors) (levels : 0 < M .levels) (fast : 0 < top M) where
-  flat-out : List ℕ
-  flat-out = replicate (M .processors) (M .levels - 1)
+  all-at-top : List ℕ
+  all-at-top = replicate (M .processors) (M .levels - 1)
 
-  flat-out-plan : IsPlan M flat-out
-  unfolding flat-out
-  flat-out-plan = record {
+  all-at-top-plan : IsPlan M all-at-top
+  unfolding all-at-top
+  all-at-top-plan = record {
     size = length-replicate (M .processors) (M .levels - 1);
     within = λ k h. rw (getD-replicate (M .processors) k (M .levels - 1) 0 h) (omega arith);
     never-rises = level-of-same (M .processors) (M .levels - 1);
   }
 
-  capacity-flat-out : (k : ℕ) → k ≤ M .processors → capacity M k flat-out ≡ k * top M
-  unfolding flat-out top speed
-  capacity-flat-out k h =
-      capacity-sum M k flat-out (omega (arith, flat-out-plan .size))
+  capacity-at-top : (k : ℕ) → k ≤ M .processors → capacity M k all-at-top ≡ k * top M
+  unfolding all-at-top top speed
+  capacity-at-top k h =
+      capacity-sum M k all-at-top (omega (arith, all-at-top-plan .size))
       ∙ omega (arith, ap (λ (x : ℕ). x * M .step) (first-of-same (M .processors) (M .levels - 1) k h))
 
   capacity-most : (plan : List ℕ) → IsPlan M plan → (k : ℕ) → k ≤ M .processors → capacity M k plan ≤ k * top M
@@ -87,10 +87,10 @@ module _ (M : Machine) (processors : 0 < M .processors) (levels : 0 < M .levels)
   -- ---- The works ws in H ticks
 
   module _ (H : ℕ) (ws : List ℕ) where
-    flat-out-passes : largest 1 ws ≤ H → sum ws ≤ M .processors * H → Passes M H ws flat-out
-    flat-out-passes each all = record {
-      part = λ k o h. rw (capacity-flat-out k (omega arith)) (weigh k (largest k ws) (omega (arith, largest-by-one k ws, mul-le-mul-left k each)));
-      whole = rw (capacity-flat-out (M .processors) (le-refl _)) (weigh (M .processors) (sum ws) all);
+    all-at-top-passes : largest 1 ws ≤ H → sum ws ≤ M .processors * H → Passes M H ws all-at-top
+    all-at-top-passes each all = record {
+      part = λ k o h. rw (capacity-at-top k (omega arith)) (weigh k (largest k ws) (omega (arith, largest-by-one k ws, mul-le-mul-left k each)));
+      whole = rw (capacity-at-top (M .processors) (le-refl _)) (weigh (M .processors) (sum ws) all);
     }
       where
         weigh : (k w : ℕ) → w ≤ k * H → top M * w ≤ H * (k * top M)
@@ -116,33 +116,33 @@ module _ (M : Machine) (processors : 0 < M .processors) (levels : 0 < M .levels)
       weighed plan is (M .processors) (sum ws) (le-refl _) (p .whole),
     )
 
-  module _ (jobs : List Job) (timed : Timed jobs) where
+  module _ (jobs : List Job) (positive : PositiveWindows jobs) where
     abbrev H : ℕ
     H = hyperperiod jobs
 
     windows : Every (Window H) jobs
-    windows = every-both (λ job. 0 < window job) (λ job. window job ∣ H) (Window H) (λ job t d. (t, d)) jobs timed (hyperperiod-multiple jobs)
+    windows = every-both (λ job. 0 < window job) (λ job. window job ∣ H) (Window H) (λ job t d. (t, d)) jobs positive (hyperperiod-multiple jobs)
 
-    fits : SomePasses M jobs → Fits M jobs
+    fits : Feasible M jobs → Fits M jobs
     unfolding works
     fits (plan, is, p) =
         let bounds = passes-bounds H (works jobs) plan is p in
         record {
-          each = every-both (Window H) (λ job. work H job ≤ H) (λ job. job .cost ≤ window job) (cost-fits H (hyperperiod-pos jobs timed)) jobs windows
+          each = every-both (Window H) (λ job. work H job ≤ H) (λ job. job .cost ≤ window job) (cost-fits H (hyperperiod-pos jobs positive)) jobs windows
               (every-of-largest H H jobs (bounds .0));
           all = bounds .1;
         }
 
-    carries : Fits M jobs → SomePasses M jobs
+    carries : Fits M jobs → Feasible M jobs
     unfolding works
     carries f = (
-      flat-out,
-      flat-out-plan,
-      flat-out-passes H (works jobs)
+      all-at-top,
+      all-at-top-plan,
+      all-at-top-passes H (works jobs)
           (largest-of-every H H jobs
           (every-both (Window H) (λ job. job .cost ≤ window job) (λ job. work H job ≤ H) (work-fits H) jobs windows (f .each)))
           (f .all),
     )
 
-pub fits-when-passes : FitsWhenPasses
-fits-when-passes M pm pl fast jobs timed = (fits M pm pl fast jobs timed, carries M pm pl fast jobs timed)
+pub feasible-iff-fits : FeasibleIffFits
+feasible-iff-fits M pm pl fast jobs positive = (fits M pm pl fast jobs positive, carries M pm pl fast jobs positive)

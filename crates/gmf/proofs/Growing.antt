@@ -7,11 +7,11 @@ use mathlib.Core.Path.{_≡_, refl, ap, sym, subst, _∙_}
 use mathlib.Core.Bool.{true, false, false≢true}
 use mathlib.Core.Logic.{_↔_}
 use mathlib.Core.List.{List}
-use lib.ListN.{length, take, replicate, length-replicate, List·getD-eq-default}
+use lib.ListN.{length, take, length-replicate, List·getD-eq-default}
 use lib.Seq.{take-length}
 use Rattle.gmf.specs.declared.Machine.{Machine}
 use Rattle.gmf.specs.Capacity.{sum, level, IsPlan, Passes}
-use Rattle.gmf.specs.Growing.{Growth, Grown, NoPlan, holds, raise, room, settle, step, steps, growing}
+use Rattle.gmf.specs.Growing.{Growth, Grown, NoPlan, holds, raise, raisesLeft, raiseWhileFails, step, steps, growing}
 use Rattle.gmf.specs.Claims.{Least, NonePasses, FindsLeast, FindsNone}
 use Rattle.gmf.proofs.Sums.{by-test, below-suc, Falling, first, first-mono, first-at-most, first-of-zeros, level-of-zeros}
 use Rattle.gmf.proofs.Raise.{raise-length, raise-first, raise-grows, raise-within, raise-never-rises, raise-under}
@@ -64,27 +64,27 @@ module _ (M : Machine) (H : ℕ) (ws : List ℕ) where
     holding : (plan : List ℕ) (raises : ℕ) → Reached (suc i) plan raises → Tested M H ws i plan → holds M H ws (suc i) plan ≡ true → Sound (suc i) (Grown plan raises)
     holding plan raises r t e = (r, below-suc (λ j. holds M H ws (suc j) plan ≡ true) i t e)
 
-    -- With no room left all first suc i are at the top: no plan has a larger sum, so none passes.
-    settled : (left : ℕ) (plan : List ℕ) (raises : ℕ) → first (suc i) plan + left ≡ suc i * (M .levels - 1)
-        → Reached (suc i) plan raises → Tested M H ws i plan → Sound (suc i) (settle M H ws left (suc i) plan raises)
-    unfolding settle
-    settled zero plan raises full r t =
+    -- With no raisesLeft left all first suc i are at the top: no plan has a larger sum, so none passes.
+    raised-while-fails : (left : ℕ) (plan : List ℕ) (raises : ℕ) → first (suc i) plan + left ≡ suc i * (M .levels - 1)
+        → Reached (suc i) plan raises → Tested M H ws i plan → Sound (suc i) (raiseWhileFails M H ws left (suc i) plan raises)
+    unfolding raiseWhileFails
+    raised-while-fails zero plan raises full r t =
         by-test (Sound (suc i)) (holds M H ws (suc i) plan) (Grown plan raises) NoPlan (holding plan raises r t)
         (λ e other is p. omega (arith, short plan (r .size) e other is p, first-at-most (M .levels - 1) other (plan-within M other is) (suc i)))
-    settled (suc left) plan raises full r t =
+    raised-while-fails (suc left) plan raises full r t =
         let into : i < length plan = omega (arith, r .size) in
         let nr = r .never-rises in
-        by-test (Sound (suc i)) (holds M H ws (suc i) plan) (Grown plan raises) (settle M H ws left (suc i) (raise (suc i) plan) (suc raises))
+        by-test (Sound (suc i)) (holds M H ws (suc i) plan) (Grown plan raises) (raiseWhileFails M H ws left (suc i) (raise (suc i) plan) (suc raises))
         (holding plan raises r t)
-        (λ e. settled left (raise (suc i) plan) (suc raises)
+        (λ e. raised-while-fails left (raise (suc i) plan) (suc raises)
         (omega (arith, raise-first i plan nr into (suc i) (omega arith)))
         (raised plan raises e (omega arith) r)
         (λ j h. holds-under M H ws (suc j) plan (raise (suc i) plan) (sym (raise-length i plan nr into)) (raise-grows i plan nr into (suc j) .0) (t j h)))
 
     stepped : (g : Growth) → Sound i g → Sound (suc i) (step M H ws (suc i) g)
-    unfolding step room
+    unfolding step raisesLeft
     stepped (Grown plan raises) (r, t) =
-        settled (room M H ws (suc i) plan) plan raises
+        raised-while-fails (raisesLeft M H ws (suc i) plan) plan raises
         (add-sub-of-le (first-at-most (M .levels - 1) plan (r .within) (suc i)))
         record {
           size = r .size;

@@ -1,14 +1,13 @@
 -- The hyperperiod of a list of jobs, and their works in it and in its multiples.
-use Prim.Native.Nat.{ℕ, zero, suc, _*_, _/_, _<_, _≤_, _∣_}
-use native.Mathlib.Nat.{dvd-refl, dvd-trans, one-dvd, div-mul-cancel, mul-div-assoc, mul-assoc, mul-left-comm, mul-comm, le-of-dvd, pos-of-dvd-of-pos, mul-div-cancel'}
+use Prim.Native.Nat.{ℕ, _*_, _/_, _<_, _∣_}
+use native.Mathlib.Nat.{dvd-trans, one-dvd, div-mul-cancel, mul-div-assoc, mul-assoc, mul-left-comm}
 use native.Mathlib.Omega.{arith}
-use mathlib.Core.Path.{_≡_, refl, sym, ap, ap₂, _∙_}
+use mathlib.Core.Path.{_≡_, refl, ap, ap₂, _∙_}
 use mathlib.Core.List.{List, [], _∷_, _++_, map}
-use Rattle.number.specs.Divisors.{lcm}
 use Rattle.number.proofs.Laws.{lcm-is, lcm-pos}
 use Rattle.gmf.specs.declared.Job.{Job}
-use Rattle.gmf.specs.Jobs.{window, hyperperiod, work, works, Every}
-use Rattle.gmf.specs.Claims.{Timed, IsHyperperiod, LeastCommon}
+use Rattle.gmf.specs.Jobs.{window, hyperperiod, work, Every}
+use Rattle.gmf.specs.Claims.{PositiveWindows, LeastCommon}
 
 -- ---- Every
 
@@ -27,7 +26,7 @@ every-fewer P (x ∷ xs) after job (p, h) = (p, every-fewer P xs after job h)
 
 -- ---- The least common multiple
 
-pub hyperperiod-pos : (jobs : List Job) → Timed jobs → 0 < hyperperiod jobs
+pub hyperperiod-pos : (jobs : List Job) → PositiveWindows jobs → 0 < hyperperiod jobs
 unfolding hyperperiod
 hyperperiod-pos [] h = omega arith
 hyperperiod-pos (job ∷ jobs) (p, h) = lcm-pos (window job) (hyperperiod jobs) p (hyperperiod-pos jobs h)
@@ -52,8 +51,8 @@ unfolding work
 work-whole H job d = mul-assoc (job .cost) (H / window job) (window job) ∙ ap (λ (x : ℕ). job .cost * x) (div-mul-cancel (window job) d)
 
 pub least-common : LeastCommon
-least-common jobs timed = record {
-  positive = hyperperiod-pos jobs timed;
+least-common jobs positive = record {
+  positive = hyperperiod-pos jobs positive;
   multiple = hyperperiod-multiple jobs;
   least = hyperperiod-least jobs;
   whole = every-map _ _ (work-whole (hyperperiod jobs)) jobs (hyperperiod-multiple jobs);

@@ -7,11 +7,12 @@ use Rattle.gmf.proofs.Capacity.{same-tests}
 use Rattle.gmf.proofs.Raise.{finds-slowest}
 use Rattle.gmf.proofs.Growing.{finds-least, finds-none}
 use Rattle.gmf.proofs.Steps.{follows-text, paper-loop}
+use Rattle.gmf.proofs.OneLevel.{step-unused}
 use Rattle.gmf.proofs.Majorization.{least-power}
 use Rattle.gmf.proofs.Strict.{only-plan}
 use Rattle.gmf.proofs.Hyperperiod.{least-common}
 use Rattle.gmf.proofs.Retire.{retires}
-use Rattle.gmf.proofs.Feasible.{fits-when-passes}
+use Rattle.gmf.proofs.Feasible.{feasible-iff-fits}
 use Rattle.gmf.proofs.Tables.{cubes-hold, default-table}
 use Rattle.gmf.proofs.AcceptanceTrials.{trials-hold}
 
@@ -19,6 +20,7 @@ pub plans-jobs : PlansJobs
 unfolding planOf
 plans-jobs M pm pl jobs = record {
   found = finds-least M pm pl (hyperperiod jobs) (works jobs);
+  cheapest = least-power M pm pl (hyperperiod jobs) (works jobs);
   none = finds-none M pm pl (hyperperiod jobs) (works jobs);
 }
 
@@ -33,10 +35,11 @@ method = record {
   finds-slowest = finds-slowest;
   follows-text = follows-text;
   paper-loop = paper-loop;
+  step-unused = step-unused;
   least-common = least-common;
   plans-jobs = plans-jobs;
   retires = retires;
-  fits-when-passes = fits-when-passes;
+  feasible-iff-fits = feasible-iff-fits;
   cubes = cubes-hold;
   default-table = default-table;
   trials = trials-hold;

@@ -1,16 +1,16 @@
 -- One job fewer: a plan that passed still passes, since the rest has no more work and its hyperperiod divides the old one.
-use Prim.Native.Nat.{ℕ, suc, _+_, _*_, _/_, _≤_, _<_, _∣_}
+use Prim.Native.Nat.{ℕ, _*_, _/_, _≤_, _<_, _∣_}
 use native.Mathlib.Nat.{le-trans, mul-le-mul-left, le-of-mul-le-mul-left, le-of-dvd, div-mul-cancel, pos-of-ne-zero}
 use native.Mathlib.Omega.{arith}
-use mathlib.Core.Path.{_≡_, refl, sym, ap, subst, _∙_}
-use mathlib.Core.List.{List, [], _∷_, _++_, map, map-append}
-use lib.ListN.{length, length-append, length-map}
+use mathlib.Core.Path.{_≡_, ap}
+use mathlib.Core.List.{List, _∷_, _++_, map, map-append}
+use lib.ListN.{length-append, length-map}
 use Rattle.gmf.specs.declared.Machine.{Machine}
 use Rattle.gmf.specs.declared.Job.{Job}
 use Rattle.gmf.specs.Machine.{top}
-use Rattle.gmf.specs.Jobs.{window, hyperperiod, work, works, Every}
+use Rattle.gmf.specs.Jobs.{window, hyperperiod, work, works}
 use Rattle.gmf.specs.Capacity.{sum, largest, capacity, Passes, PassesFor}
-use Rattle.gmf.specs.Claims.{Timed, Retires}
+use Rattle.gmf.specs.Claims.{PositiveWindows, Retires}
 use Rattle.gmf.proofs.Sums.{sum-place, sum-scale}
 use Rattle.gmf.proofs.Largest.{largest-place, largest-less, largest-scale}
 use Rattle.gmf.proofs.Hyperperiod.{every-fewer, hyperperiod-pos, hyperperiod-multiple, hyperperiod-least, works-scale}
@@ -33,15 +33,12 @@ passes-shorter M c H ws plan pos p = record {
     divide : (w s : ℕ) → top M * (c * w) ≤ c * H * s → top M * w ≤ H * s
     divide w s h = le-of-mul-le-mul-left {k = c} (omega arith) pos
 
-module _ (before after : List Job) (job : Job) (timed : Timed (before ++ job ∷ after)) where
+module _ (before after : List Job) (job : Job) (positive : PositiveWindows (before ++ job ∷ after)) where
   abbrev long : ℕ
   long = hyperperiod (before ++ job ∷ after)
 
   abbrev short : ℕ
   short = hyperperiod (before ++ after)
-
-  rest-timed : Timed (before ++ after)
-  rest-timed = every-fewer (λ j. 0 < window j) before after job timed
 
   shortens : short ∣ long
   shortens = hyperperiod-least (before ++ after) long (every-fewer (λ j. window j ∣ long) before after job (hyperperiod-multiple (before ++ job ∷ after)))
@@ -54,7 +51,7 @@ module _ (before after : List Job) (job : Job) (timed : Timed (before ++ job ∷
   c-long = div-mul-cancel short shortens
 
   c-pos : 0 < c
-  c-pos = pos-of-ne-zero (λ z. omega (arith, hyperperiod-pos (before ++ job ∷ after) timed, c-long, ap (λ (x : ℕ). x * short) z))
+  c-pos = pos-of-ne-zero (λ z. omega (arith, hyperperiod-pos (before ++ job ∷ after) positive, c-long, ap (λ (x : ℕ). x * short) z))
 
   passes-rest : (M : Machine) (plan : List ℕ) → PassesFor M (before ++ job ∷ after) plan → PassesFor M (before ++ after) plan
   unfolding works
@@ -64,7 +61,7 @@ module _ (before after : List Job) (job : Job) (timed : Timed (before ++ job ∷
       (passes-fewer M long (work long job) (map (work long) before) (map (work long) after) plan (rw map-append at p)))
 
 pub retires : Retires
-retires before after job timed = record {
-  passes = passes-rest before after job timed;
-  shorter = le-of-dvd (hyperperiod-pos (before ++ job ∷ after) timed) (shortens before after job timed);
+retires before after job positive = record {
+  passes = passes-rest before after job positive;
+  shorter = le-of-dvd (hyperperiod-pos (before ++ job ∷ after) positive) (shortens before after job positive);
 }

@@ -50,17 +50,27 @@ tabulate-convex f n up bend = record {
       bend j (in-table (suc (suc j)) h),
     )
 
+cubes-size : length cubes ≡ 257
+unfolding cubes
+cubes-size = tabulate-length cube 257
+
 cube-at : (s : ℕ) → s ≤ 256 → power cubes s ≡ cube s
 unfolding cubes
 cube-at s h = tabulate-at cube 257 s (omega arith)
 
+cubes-rising : (s : ℕ) → s < 256 → power cubes s < power cubes (suc s)
+cubes-rising s h = rw (cube-at s (omega arith), cube-at (suc s) (omega arith)) (unfold cube in (omega arith))
+
+cubes-strict : (s : ℕ) → suc s < length cubes → rise cubes s < rise cubes (suc s)
+unfolding rise
+cubes-strict zero h = omega (arith, cubes-rising 0 (omega arith))
+cubes-strict (suc s) h =
+    let in-table : suc (suc s) ≤ 256 = omega (arith, cubes-size) in
+    rw (cube-at s (omega arith), cube-at (suc s) (omega arith), cube-at (suc (suc s)) in-table) (unfold cube in (omega arith))
+
 pub cubes-hold : Cubes
-unfolding cubes cube
-cubes-hold = record {
-  size = tabulate-length cube 257;
-  cube-rule = cube-at;
-  convex = tabulate-convex cube 257 (λ j _. omega arith) (λ j _. omega arith);
-}
+unfolding cube
+cubes-hold = record { size = cubes-size; cube-rule = cube-at; rising = cubes-rising; convex = record { rises-grow = λ s h. omega (arith, cubes-strict s h) } }
 
 module _ (M : Machine) (fast : top M ≤ 256) where
   -- No level is faster than the top one.

@@ -10,7 +10,7 @@ use Rattle.gmf.specs.declared.Job.{Job}
 use Rattle.gmf.specs.Machine.{speed, top}
 use Rattle.gmf.specs.Jobs.{window, hyperperiod, work, works, Every}
 use Rattle.gmf.specs.Capacity.{sum, largest, level, IsPlan, Passes, PassesFor}
-use Rattle.gmf.specs.Growing.{Growth, Grown, NoPlan, slowest, raise, holds, step, steps, growing, planOf}
+use Rattle.gmf.specs.Growing.{Grown, NoPlan, slowest, raise, holds, step, steps, growing, planOf}
 use Rattle.gmf.specs.Power.{power, Convex, StrictlyConvex, IsTable, total, cubes, defaultTable}
 use Rattle.gmf.specs.Trials.{Trials}
 
@@ -69,6 +69,8 @@ pub record LargestRule : Type 0 where
   pub of-none : (k : ℕ) → largest k [] ≡ 0
   pub no-more : (ws : List ℕ) → largest 0 ws ≡ 0
   pub either : (k x : ℕ) (ws : List ℕ) → largest (suc k) (x ∷ ws) ≡ max (largest (suc k) ws) (x + largest k ws)
+  -- Works in another order have the same sums.
+  pub any-order : (k x : ℕ) (xs ys : List ℕ) → largest k (xs ++ x ∷ ys) ≡ largest k (x ∷ (xs ++ ys))
 
 -- p is the place of the slowest of the first i processors, the lowest-numbered among equals.
 pub record IsSlowest (i : ℕ) (plan : List ℕ) (p : ℕ) : Type 0 where
@@ -76,8 +78,9 @@ pub record IsSlowest (i : ℕ) (plan : List ℕ) (p : ℕ) : Type 0 where
   pub slowest-of : (k : ℕ) → k < i → level plan p ≤ level plan k
   pub lowest-numbered : (k : ℕ) → k < p → level plan p < level plan k
 
+-- It is the one that the definition finds, and no other.
 abbrev pub FindsSlowest : Type 0
-FindsSlowest = (i : ℕ) → 0 < i → (plan : List ℕ) → IsSlowest i plan (slowest i plan)
+FindsSlowest = (i : ℕ) → 0 < i → (plan : List ℕ) (p : ℕ) → IsSlowest i plan p ↔ (p ≡ slowest i plan)
 
 -- Step i at a plan, as the text has it.
 pub record StepRule (M : Machine) (H : ℕ) (ws : List ℕ) (i : ℕ) (plan : List ℕ) (raises : ℕ) : Type 0 where
@@ -89,7 +92,10 @@ pub record StepRule (M : Machine) (H : ℕ) (ws : List ℕ) (i : ℕ) (plan : Li
   -- While test i fails and one of them is below the top, raise, and go on with the step.
   pub raises-one : holds M H ws i plan ≡ false → (k : ℕ) → k < i → level plan k < M .levels - 1
       → step M H ws i (Grown plan raises) ≡ step M H ws i (Grown (raise i plan) (suc raises))
+  -- What is raised so is a plan again.
+  pub raised-plan : (k : ℕ) → k < i → level plan k < M .levels - 1 → IsPlan M (raise i plan)
 
+-- Every step that growing makes is of this kind.
 abbrev pub FollowsText : Type 0
 FollowsText =
     (M : Machine) (H : ℕ) (ws : List ℕ) (i : ℕ) → 1 ≤ i → i ≤ M .processors
@@ -100,11 +106,17 @@ abbrev pub PaperLoop : Type 0
 PaperLoop =
     (M : Machine) (H : ℕ) (ws : List ℕ) → growing M H ws ≡ steps M H ws (min (M .processors) (length ws))
 
+-- "With one level d is still given and has no effect."
+abbrev pub StepUnused : Type 0
+StepUnused =
+    (M M′ : Machine) → 0 < M .processors → M .levels ≡ 1 → M′ .levels ≡ 1 → M .processors ≡ M′ .processors → M .lowest ≡ M′ .lowest
+    → (H : ℕ) (ws : List ℕ) → growing M H ws ≡ growing M′ H ws
+
 -- ---- Jobs
 
--- Every job has a window above 0, as 01's range of T has it.
-abbrev pub Timed : List Job → Type 0
-Timed jobs = Every (λ job. 0 < window job) jobs
+-- Every job has a window above 0, as 01's range of T says.
+abbrev pub PositiveWindows : List Job → Type 0
+PositiveWindows jobs = Every (λ job. 0 < window job) jobs
 
 -- The hyperperiod is the least common multiple of the windows, and every work is whole.
 pub record IsHyperperiod (jobs : List Job) (H : ℕ) : Type 0 where
@@ -114,11 +126,15 @@ pub record IsHyperperiod (jobs : List Job) (H : ℕ) : Type 0 where
   pub whole : Every (λ job. work H job * window job ≡ job .cost * H) jobs
 
 abbrev pub LeastCommon : Type 0
-LeastCommon = (jobs : List Job) → Timed jobs → IsHyperperiod jobs (hyperperiod jobs)
+LeastCommon = (jobs : List Job) → PositiveWindows jobs → IsHyperperiod jobs (hyperperiod jobs)
 
--- What a machine gives its jobs is the least plan that passes for them, and none exactly when none passes.
+-- What a machine gives its jobs is the least plan that passes for them; under every table of L numbers that never falls and whose
+-- rises never shrink, no plan that passes for them draws less; and it gives none exactly when none passes.
 pub record Plans (M : Machine) (jobs : List Job) : Type 0 where
   pub found : (plan : List ℕ) (raises : ℕ) → planOf M jobs ≡ Grown plan raises → Least M (hyperperiod jobs) (works jobs) plan raises
+  pub cheapest : (plan : List ℕ) (raises : ℕ) → planOf M jobs ≡ Grown plan raises
+      → (table : List ℕ) → length table ≡ M .levels → Convex table
+      → (other : List ℕ) → IsPlan M other → PassesFor M jobs other → total table plan ≤ total table other
   pub none : (planOf M jobs ≡ NoPlan) ↔ NonePasses M (hyperperiod jobs) (works jobs)
 
 abbrev pub PlansJobs : Type 0
@@ -130,29 +146,30 @@ pub record OneFewer (before after : List Job) (job : Job) : Type 0 where
   pub shorter : hyperperiod (before ++ after) ≤ hyperperiod (before ++ job ∷ after)
 
 abbrev pub Retires : Type 0
-Retires = (before after : List Job) (job : Job) → Timed (before ++ job ∷ after) → OneFewer before after job
+Retires = (before after : List Job) (job : Job) → PositiveWindows (before ++ job ∷ after) → OneFewer before after job
 
 -- Some plan passes for the jobs.
-abbrev pub SomePasses : Machine → List Job → Type 0
-SomePasses M jobs = (plan : List ℕ) × IsPlan M plan × PassesFor M jobs plan
+abbrev pub Feasible : Machine → List Job → Type 0
+Feasible M jobs = (plan : List ℕ) × IsPlan M plan × PassesFor M jobs plan
 
--- Every cost is at most its window, and the sum of the works is at most m × H.
+-- Every cost is at most its window ("C may exceed T; such a job fits no plan"), and the sum of the works is at most m × H.
 pub record Fits (M : Machine) (jobs : List Job) : Type 0 where
   pub each : Every (λ job. job .cost ≤ window job) jobs
   pub all : sum (works jobs) ≤ M .processors * hyperperiod jobs
 
--- Some plan passes exactly when the jobs fit so.
-abbrev pub FitsWhenPasses : Type 0
-FitsWhenPasses =
-    (M : Machine) → 0 < M .processors → 0 < M .levels → 0 < top M → (jobs : List Job) → Timed jobs → SomePasses M jobs ↔ Fits M jobs
+-- Some plan passes for the jobs exactly when they fit so.
+abbrev pub FeasibleIffFits : Type 0
+FeasibleIffFits =
+    (M : Machine) → 0 < M .processors → 0 < M .levels → 0 < top M → (jobs : List Job) → PositiveWindows jobs → Feasible M jobs ↔ Fits M jobs
 
 -- ---- The default table
 
--- The cube rule at each of the 257 places; the whole table never falls and its rises never shrink.
+-- The cube rule at each of the 257 places; the whole table rises, and its rises grow.
 pub record CubeTable (table : List ℕ) : Type 0 where
   pub size : length table ≡ 257
   pub cube-rule : (s : ℕ) → s ≤ 256 → power table s ≡ s * s * s
-  pub convex : Convex table
+  pub rising : (s : ℕ) → s < 256 → power table s < power table (suc s)
+  pub convex : StrictlyConvex table
 
 abbrev pub Cubes : Type 0
 Cubes = CubeTable cubes
@@ -177,10 +194,11 @@ pub record Method : Type 0 where
   pub finds-slowest : FindsSlowest
   pub follows-text : FollowsText
   pub paper-loop : PaperLoop
+  pub step-unused : StepUnused
   pub least-common : LeastCommon
   pub plans-jobs : PlansJobs
   pub retires : Retires
-  pub fits-when-passes : FitsWhenPasses
+  pub feasible-iff-fits : FeasibleIffFits
   pub cubes : Cubes
   pub default-table : DefaultTable
   pub trials : Trials

@@ -1,4 +1,20 @@
--- In document 01's order; Claims and Trials say what is proved of the rest.
+-- The method, in document 01's order; Trials and Claims say what is proved of it.
+--
+-- How to read these files. A definition stands under the sentence of 01 that it renders; … marks what is left out of a sentence.
+--   r .f                the field f of a record r
+--   a - b               a less b, and 0 where b is larger; a * b, a / b, a % b: product, whole quotient, remainder
+--   A → B, (k : ℕ) → B  if A then B; B for every whole number k from 0
+--   A × B, A ↔ B, ⊥     both (in comments × multiplies, as in 01); each follows from the other; what never holds
+--   [], x ∷ l, l ++ k   the empty list; x and then l; l and then k
+--   take k l, map f l   the first k of l; f of each of l
+--   replicate n x       n times x
+--   getD l k d          what stands in l at the place k, counted from 0; d past the end
+--   set l k x           l with x at the place k
+--   leb a b, ltb a b    the truth of a ≤ b, of a < b
+--   elim b [ true ↦ x | false ↦ y ]   x where b is true, y where it is false
+--   zero, suc k         0 and k + 1: by these a definition recurses
+-- `pub`, `unfoldable` and `abbrev` say who may use a definition and see through it. They have no effect on its meaning.
+-- `Machine` and `Job` are the structs of src/lib.rt; here their fields are whole numbers of any size.
 pub mod Machine
 pub mod Jobs
 pub mod Capacity

@@ -7,11 +7,11 @@ use Rattle.gmf.specs.declared.Machine.{Machine}
 use Rattle.gmf.specs.Machine.{speed}
 use Rattle.gmf.specs.Capacity.{sum}
 
--- The power that a level draws under a table.
+-- The power that a level draws under a table; 0 past its end.
 abbrev pub power : List ℕ → ℕ → ℕ
 power table j = getD table j 0
 
--- The rise to a level from the level before it. Level 0 has none before it, and 0 stands for its rise.
+-- The rise to a level from the level before it, where the table does not fall there. Level 0 has none before it: its rise is 0.
 unfoldable pub rise : List ℕ → ℕ → ℕ
 rise table zero = 0
 rise table (suc j) = power table (suc j) - power table j
@@ -35,6 +35,7 @@ pub record IsTable (M : Machine) (table : List ℕ) : Type 0 where
 unfoldable pub total : List ℕ → List ℕ → ℕ
 total table plan = sum (map (power table) plan)
 
+-- 004's cube law.
 unfoldable pub cube : ℕ → ℕ
 cube s = s * s * s
 
@@ -43,10 +44,10 @@ unfoldable pub tabulate : (ℕ → ℕ) → ℕ → List ℕ
 tabulate f zero = []
 tabulate f (suc n) = f 0 ∷ tabulate (λ j. f (suc j)) n
 
--- "The house table holds the cubes of 0 to 256."
+-- "The house table holds the cubes of 0 to 256 …".
 unfoldable pub cubes : List ℕ
 cubes = tabulate cube 257
 
--- The house table "is read at the level's speed (document 004's cube law)". We call it the default table of a machine.
+-- "The house table … is read at the level's speed (document 004's cube law)." Read so it is the default table of a machine.
 unfoldable pub defaultTable : Machine → List ℕ
 defaultTable M = tabulate (λ j. getD cubes (speed M j) 0) (M .levels)

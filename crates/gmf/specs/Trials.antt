@@ -1,4 +1,6 @@
--- 01's trials with known results, those marked *, as one list.
+-- 01's "Trials with known results", those marked *, as one list. 01 gives the levels or the refusal of each, and H, raises or power
+-- of some; the rest was worked out by hand from 01: H from the periods, the raises as the sum of the levels, the power as the sum of
+-- the cubes of the speeds, which in quarters are 1, 8, 27 and 64.
 use Prim.Native.Nat.{ℕ, suc}
 use mathlib.Core.Path.{_≡_}
 use mathlib.Core.Bool.{false}
@@ -9,7 +11,7 @@ use Rattle.gmf.specs.Jobs.{hyperperiod, works}
 use Rattle.gmf.specs.Growing.{Growth, Grown, NoPlan, holds, planOf}
 use Rattle.gmf.specs.Power.{total, defaultTable}
 
--- "Quarters: b = 1, d = 1, L = 4."
+-- "… quarters: b = 1, d = 1, L = 4 …".
 unfoldable pub quarters : ℕ → Machine
 quarters m = record { processors = m; levels = 4; lowest = 1; step = 1 }
 
@@ -27,6 +29,7 @@ unfoldable pub filed : Machine → List Job → Growth → Outcome
 filed M jobs (Grown plan raises) = Planned (hyperperiod jobs) plan raises (total (defaultTable M) plan)
 filed M jobs NoPlan = Refused 17
 
+-- What a machine gives its jobs.
 unfoldable pub outcomeOf : Machine → List Job → Outcome
 outcomeOf M jobs = filed M jobs (planOf M jobs)
 
@@ -36,6 +39,7 @@ pub record Trial : Type 0 where
   pub jobs : List (ℕ × ℕ)
   pub result : Outcome
 
+-- In 01's order. The eleventh is the job that the sheet of 01's example turns down.
 unfoldable pub trials : List Trial
 trials =
     record { processors = 4; jobs = []; result = Planned 1 (0 ∷ 0 ∷ 0 ∷ 0 ∷ []) 0 4 }
@@ -52,6 +56,7 @@ trials =
       jobs = (10, 10) ∷ (9, 10) ∷ (6, 10) ∷ (5, 10) ∷ (1, 10) ∷ [];
       result = Planned 10 (3 ∷ 3 ∷ 2 ∷ 1 ∷ []) 9 163;
     }
+    ∷ record { processors = 4; jobs = (10, 10) ∷ (9, 10) ∷ (6, 10) ∷ (5, 10) ∷ (1, 10) ∷ (11, 10) ∷ []; result = Refused 17 }
     ∷ record {
       processors = 4;
       jobs = (20, 20) ∷ (18, 20) ∷ (12, 20) ∷ (10, 20) ∷ (5, 20) ∷ [];
@@ -59,10 +64,11 @@ trials =
     }
     ∷ []
 
+-- A trial run.
 unfoldable pub run : Trial → Outcome
 run t = outcomeOf (quarters (t .processors)) (jobsFrom 1 (t .jobs))
 
--- "m 2, jobs 4/4 and 1/4 … Two cores at speed 3 would draw 54 and fail test 1."
+-- "… m 2, jobs 4/4 and 1/4: levels 3 0, power 65. Two cores at speed 3 would draw 54 and fail test 1."
 unfoldable pub twoJobs : List Job
 twoJobs = jobsFrom 1 ((4, 4) ∷ (1, 4) ∷ [])
 

@@ -1,5 +1,8 @@
-// The default table of power (01's house table): the cubes of 0 to 256, read at a speed.
-pub const CUBES: [u32; 257] = [
+// The house table: the cubes of 0 to 256.
+ghost use mathlib.Core.Path.{_≡_};
+ghost use Rattle.gmf.specs.Power.{cubes};
+
+const CUBES: [u32; 257] = [
     0,
     1,
     8,
@@ -258,3 +261,9 @@ pub const CUBES: [u32; 257] = [
     16581375,
     16777216,
 ];
+
+pub fn cube_table() -> [u32; 257]
+    ensures { λ r. ⌜ r ≡ cubes ⌝ }
+{
+    CUBES
+}

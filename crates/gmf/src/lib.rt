@@ -8,7 +8,7 @@ ghost use Rattle.gmf.specs.Power.{defaultTable};
 
 mod cubes;
 
-use cubes::CUBES;
+use cubes::cube_table;
 
 // m processors, each at one of L levels; level j has the speed lowest + j × step.
 pub struct Machine {
@@ -31,7 +31,7 @@ impl Machine {
         requires { ⌜ InRange self ⌝ }
         ensures { λ r. ⌜ r ≡ defaultTable self ++ replicate (32 - self .levels) 0 ⌝ }
     {
-        let cubes = CUBES;
+        let cubes = cube_table();
         let levels = self.levels as usize;
         let step = self.step as usize;
         let mut table = [0u32; 32];

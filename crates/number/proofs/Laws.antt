@@ -1,35 +1,10 @@
 -- The laws of gcd and lcm. Users of the two go by these and never by Euclid's rule.
-use Prim.Native.Nat.{ℕ, zero, suc, _*_, _/_, _%_, _<_, _≤_, _∣_}
-use native.Mathlib.Nat.{
-  dvd-refl,
-  dvd-zero,
-  dvd-trans,
-  dvd-mod-iff,
-  dvd-antisymm,
-  dvd-mul-left,
-  dvd-mul-right,
-  dvd-mul-right-of-dvd,
-  dvd-of-mul-dvd-mul-left,
-  dvd-sub,
-  mul-dvd-mul-left,
-  mul-dvd-mul-right,
-  eq-zero-of-zero-dvd,
-  pos-of-dvd-of-pos,
-  div-mul-cancel,
-  mul-div-cancel',
-  mod-def,
-  mod-lt,
-  mul-assoc,
-  mul-comm,
-  mul-le-mul-right,
-  mul-sub,
-  one-mul,
-  zero-lt-suc,
-}
+use Prim.Native.Nat.{ℕ, zero, suc, _*_, _/_, _%_, _<_, _∣_}
+use native.Mathlib.Nat.{dvd-refl, dvd-zero, dvd-mod-iff, dvd-antisymm, dvd-mul-left, dvd-mul-right, dvd-mul-right-of-dvd, dvd-of-mul-dvd-mul-left, dvd-sub, mul-dvd-mul-left, mul-dvd-mul-right, eq-zero-of-zero-dvd, pos-of-dvd-of-pos, div-mul-cancel, mul-div-cancel', mod-def, mod-lt, mul-assoc, mul-comm, mul-le-mul-right, mul-sub, one-mul, zero-lt-suc}
 use native.Mathlib.Decide.{decLt}
 use native.Mathlib.Omega.{arith}
 use mathlib.Core.Path.{_≡_, refl, sym, ap, _∙_}
-use Rattle.number.specs.Divisors.{euclid, gcd, lcm, IsGcd, IsLcm, Honest}
+use Rattle.number.specs.Divisors.{euclid, gcd, lcm, IsGcd, IsLcm, DivisorLaws}
 
 -- What Euclid's rule keeps: of a number that divides k × a and k × b, that it divides k × g, for every k and not for 1 alone.
 record Kept (a b g : ℕ) : Type 0 where
@@ -41,12 +16,12 @@ dvd-scaled-mod : (k d a b : ℕ) → d ∣ k * a → d ∣ k * b → d ∣ k * (
 dvd-scaled-mod k d a b p q =
     rw (mod-def, mul-sub) (dvd-sub d p (rw (← mul-assoc k b (a / b)) (dvd-mul-right-of-dvd d q (a / b))))
 
-euclid-kept : (turns a b : ℕ) → b < turns → Kept a b (euclid turns a b)
+euclid-kept : (steps a b : ℕ) → b < steps → Kept a b (euclid steps a b)
 unfolding euclid
 euclid-kept zero a b h = absurd (omega arith)
-euclid-kept (suc turns) a zero h = record { left = dvd-refl a; right = dvd-zero a; scaled = λ k d p q. p }
-euclid-kept (suc turns) a (suc b) h =
-    let rest = euclid-kept turns (suc b) (a % suc b) (omega (arith, mod-lt a (zero-lt-suc b))) in
+euclid-kept (suc steps) a zero h = record { left = dvd-refl a; right = dvd-zero a; scaled = λ k d p q. p }
+euclid-kept (suc steps) a (suc b) h =
+    let rest = euclid-kept steps (suc b) (a % suc b) (omega (arith, mod-lt a (zero-lt-suc b))) in
     record {
       left = dvd-mod-iff _ (rest .left) .0 (rest .right);
       right = rest .left;
@@ -75,9 +50,9 @@ gcd-zero-right a = refl
 pub gcd-zero-left : (b : ℕ) → gcd 0 b ≡ b
 gcd-zero-left b = sym (gcd-unique record { left = dvd-zero b; right = dvd-refl b; greatest = λ d p q. q })
 
--- One turn of Euclid's rule.
-pub gcd-turn : (a b : ℕ) → gcd b (a % b) ≡ gcd a b
-gcd-turn a b =
+-- One step of Euclid's rule.
+pub gcd-step : (a b : ℕ) → gcd b (a % b) ≡ gcd a b
+gcd-step a b =
     let rest = gcd-is b (a % b) in
     gcd-unique
     record {
@@ -131,8 +106,8 @@ pub lcm-pos : (a b : ℕ) → 0 < a → 0 < b → 0 < lcm a b
 lcm-pos a b p q =
     pos-of-dvd-of-pos (lcm-is a b .least (a * b) (dvd-mul-right a b) (dvd-mul-left b a)) (omega (arith, mul-le-mul-right b p))
 
-pub honest : Honest
-honest = record {
+pub divisor-laws : DivisorLaws
+divisor-laws = record {
   gcd-is = gcd-is;
   lcm-is = lcm-is;
   gcd-zero-left = gcd-zero-left;

@@ -1,17 +1,18 @@
--- The greatest common divisor and the least common multiple, and what makes the names honest.
+-- The greatest common divisor and the least common multiple, and the laws that make the names honest.
 use Prim.Native.Nat.{ℕ, zero, suc, _*_, _/_, _%_, _∣_}
 use mathlib.Core.Path.{_≡_}
 
--- Euclid's rule, in at most `turns` turns: gcd(a, b) is gcd(b, a mod b), and a where b is 0.
+-- Euclid's rule, in at most `steps` steps: gcd(a, b) is gcd(b, a mod b), and a where b is 0.
 unfoldable pub euclid : ℕ → ℕ → ℕ → ℕ
 euclid zero a b = a
-euclid (suc turns) a zero = a
-euclid (suc turns) a (suc b) = euclid turns (suc b) (a % suc b)
+euclid (suc steps) a zero = a
+euclid (suc steps) a (suc b) = euclid steps (suc b) (a % suc b)
 
--- The second number falls with each turn, so b + 1 turns are enough.
+-- The second number falls with each step, so b + 1 steps are enough.
 unfoldable pub gcd : ℕ → ℕ → ℕ
 gcd a b = euclid (suc b) a b
 
+-- a / gcd(a, b) × b. A quotient by 0 is 0, and is met at a = b = 0 alone.
 unfoldable pub lcm : ℕ → ℕ → ℕ
 lcm a b = a / gcd a b * b
 
@@ -28,7 +29,7 @@ pub record IsLcm (a b l : ℕ) : Type 0 where
   pub least : (m : ℕ) → a ∣ m → b ∣ m → l ∣ m
 
 -- What is proved of the two, for all numbers.
-pub record Honest : Type 0 where
+pub record DivisorLaws : Type 0 where
   pub gcd-is : (a b : ℕ) → IsGcd a b (gcd a b)
   pub lcm-is : (a b : ℕ) → IsLcm a b (lcm a b)
   -- Every number divides 0, and 0 divides 0 alone: so gcd(0, 0) is 0.

@@ -1,11 +1,10 @@
--- `gmf::Machine::default_table` meets its contract. antt computes the cubes of 0 to 256 and finds the constant's 257 numbers:
--- that is the one step from `Filled` of the code's table to `Filled` of `cubes`.
+-- `gmf::Machine::default_table` meets its contract: after j turns the first j entries stand, read at the speeds of levels 0 to j − 1.
 use Prim.Native.Nat.{ℕ, _≤_, _-_}
 use native.Mathlib.Omega.{arith}
-use mathlib.Core.Path.{_≡_, refl, subst}
+use mathlib.Core.Path.{_≡_, subst₂}
+use mathlib.Core.List.{List}
 use borrow.Author.Needs.{needs}
 use Rattle.gmf.specs.Machine.{speed}
-use Rattle.gmf.specs.Power.{cube, tabulate, cubes}
 use Rattle.gmf.proofs.Tables.{slow, Filled, filled-begin, filled-more, filled-end}
 use Rattle.gmf.proofs.Machine.default_table.Statement.{statement}
 use Rattle.gmf.proofs.Machine.default_table.Tie as tie
@@ -15,6 +14,16 @@ Inv-loop numbers levels step table₀ lowest j₀ table speed j = (j ≤ levels)
 
 abbrev μ-loop : tie.MeasureT-loop
 μ-loop numbers levels step table₀ lowest j₀ table speed j = levels - j
+
+-- From the loop back to the call of `cube_table`, and to the function's entry.
+abbrev called : tie.At-loop Inv-loop μ-loop → tie.After-cube-table Inv-loop μ-loop
+called c = c .before .before .before .before
+
+abbrev start : tie.At-loop Inv-loop μ-loop → tie.Start Inv-loop μ-loop
+start c = called c .before
+
+cube-table-requires : tie.Need-cube-table-requires Inv-loop μ-loop
+cube-table-requires c κs = search needs
 
 cast-levels : tie.Need-cast-levels Inv-loop μ-loop
 cast-levels c = search needs
@@ -32,8 +41,8 @@ loop-holds c = (omega arith, filled-begin _ _ _)
 within : (c : tie.In-loop Inv-loop μ-loop) → c .before .loop .speed ≤ 256
 unfolding speed
 within c =
-    let start = c .before .before .before .before .before in
-    omega (arith, c .before .loop .inv .1 .at-speed, slow (start .args .self) (start .pre .top-speed) (c .before .loop .j) (c .loop-test .taken))
+    let s = start (c .before) in
+    omega (arith, c .before .loop .inv .1 .at-speed, slow (s .args .self) (s .pre .top-speed) (c .before .loop .j) (c .loop-test .taken))
 
 mul-table : tie.Need-mul-table Inv-loop μ-loop
 mul-table c = omega (arith, within c)
@@ -60,11 +69,11 @@ loop-again : tie.Need-loop-again Inv-loop μ-loop
 loop-again c = (omega arith, filled-more (omega arith) (c .before .loop .inv .1))
 
 returns : tie.Need-returns Inv-loop μ-loop
-unfolding cubes tabulate cube
 returns c =
-    let M = c .before .before .before .before .before .args .self in
+    let M = start (c .before) .args .self in
     let last : c .before .loop .j ≡ M .levels = omega arith in
-    filled-end M (subst (λ (j : ℕ). Filled cubes (M .lowest) (M .step) (c .before .loop .table) (c .before .loop .speed) j) last (c .before .loop .inv .1))
+    filled-end M (subst₂ (λ (l : List ℕ) (j : ℕ). Filled l (M .lowest) (M .step) (c .before .loop .table) (c .before .loop .speed) j)
+    (called (c .before) .cube-table .ensures) last (c .before .loop .inv .1))
 
 pub default-table-spec : {M : Type 1} → statement M
 default-table-spec =
@@ -72,6 +81,7 @@ default-table-spec =
     (tie.spec
     Inv-loop
     μ-loop
+    cube-table-requires
     cast-levels
     cast-step
     cast-speed
