@@ -26,7 +26,8 @@ pub capacity-sum : (M : Machine) (k : ℕ) (plan : List ℕ) → k ≤ length pl
 unfolding capacity
 capacity-sum M k plan h = let e : length (take k plan) ≡ k = simp length-take (omega arith) in rw (speeds M (take k plan), e)
 
-pub capacity-under : (M : Machine) (k : ℕ) (plan other : List ℕ) → length plan ≡ length other → first k plan ≤ first k other → capacity M k plan ≤ capacity M k other
+pub capacity-under : (M : Machine) (k : ℕ) (plan other : List ℕ) → length plan ≡ length other → first k plan ≤ first k other
+    → capacity M k plan ≤ capacity M k other
 unfolding capacity
 capacity-under M k plan other e h =
     rw (speeds M (take k plan), speeds M (take k other), length-take k plan, length-take k other, e) (omega (arith, mul-le-mul-right (M .step) h))
@@ -85,7 +86,7 @@ module _ (M : Machine) (H : ℕ) (ws : List ℕ) where
   pub passes : (plan : List ℕ) → 0 < M .processors → Tested (M .processors) plan → Passes M H ws plan
   passes plan pos t = record {
     part = part;
-    whole = rw (demand-whole (M .processors) (le-refl _)) at (subst (λ (i : ℕ). Holds i plan) last (holds-le (suc (pred (M .processors))) plan (t (pred (M .processors)) (omega arith))));
+    whole = rw (demand-whole (M .processors) (le-refl _)) at (subst (λ (i : ℕ). Holds i plan) last (holds-le _ plan (t (pred (M .processors)) (omega arith))));
   }
     where
       last : suc (pred (M .processors)) ≡ M .processors

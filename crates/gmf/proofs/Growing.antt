@@ -61,7 +61,8 @@ module _ (M : Machine) (H : ℕ) (ws : List ℕ) where
               raise-under i plan (r .never-rises) into other (is .never-rises) (r .under other is p) (short plan (r .size) e other is p) (r .ends);
         }
 
-    holding : (plan : List ℕ) (raises : ℕ) → Reached (suc i) plan raises → Tested M H ws i plan → holds M H ws (suc i) plan ≡ true → Sound (suc i) (Grown plan raises)
+    holding : (plan : List ℕ) (raises : ℕ) → Reached (suc i) plan raises → Tested M H ws i plan → holds M H ws (suc i) plan ≡ true
+        → Sound (suc i) (Grown plan raises)
     holding plan raises r t e = (r, below-suc (λ j. holds M H ws (suc j) plan ≡ true) i t e)
 
     -- With no raisesLeft left all first suc i are at the top: no plan has a larger sum, so none passes.

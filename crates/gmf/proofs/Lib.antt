@@ -4,6 +4,7 @@ pub mod Capacity
 pub mod Raise
 pub mod Growing
 pub mod Steps
+pub mod Range
 pub mod OneLevel
 pub mod Majorization
 pub mod Strict

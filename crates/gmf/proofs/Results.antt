@@ -7,6 +7,7 @@ use Rattle.gmf.proofs.Capacity.{same-tests}
 use Rattle.gmf.proofs.Raise.{finds-slowest}
 use Rattle.gmf.proofs.Growing.{finds-least, finds-none}
 use Rattle.gmf.proofs.Steps.{follows-text, paper-loop}
+use Rattle.gmf.proofs.Range.{range-ends}
 use Rattle.gmf.proofs.OneLevel.{step-unused}
 use Rattle.gmf.proofs.Majorization.{least-power}
 use Rattle.gmf.proofs.Strict.{only-plan}
@@ -35,6 +36,7 @@ method = record {
   finds-slowest = finds-slowest;
   follows-text = follows-text;
   paper-loop = paper-loop;
+  range-ends = range-ends;
   step-unused = step-unused;
   least-common = least-common;
   plans-jobs = plans-jobs;

@@ -7,7 +7,7 @@ use mathlib.Core.List.{List, [], _∷_, _++_}
 use lib.ListN.{length, take}
 use Rattle.gmf.specs.declared.Machine.{Machine}
 use Rattle.gmf.specs.declared.Job.{Job}
-use Rattle.gmf.specs.Machine.{speed, top}
+use Rattle.gmf.specs.Machine.{speed, top, InRange}
 use Rattle.gmf.specs.Jobs.{window, hyperperiod, work, works, Every}
 use Rattle.gmf.specs.Capacity.{sum, largest, level, IsPlan, Passes, PassesFor}
 use Rattle.gmf.specs.Growing.{Grown, NoPlan, slowest, raise, holds, step, steps, growing, planOf}
@@ -106,6 +106,12 @@ abbrev pub PaperLoop : Type 0
 PaperLoop =
     (M : Machine) (H : ℕ) (ws : List ℕ) → growing M H ws ≡ steps M H ws (min (M .processors) (length ws))
 
+-- Both ends of every range of a machine are in range.
+pub record RangeEnds : Type 0 where
+  pub least : InRange (record { processors = 1; levels = 1; lowest = 1; step = 1 })
+  pub most : InRange (record { processors = 32; levels = 32; lowest = 8; step = 8 })
+  pub fastest : InRange (record { processors = 1; levels = 1; lowest = 256; step = 255 })
+
 -- "With one level d is still given and has no effect."
 abbrev pub StepUnused : Type 0
 StepUnused =
@@ -194,6 +200,7 @@ pub record Method : Type 0 where
   pub finds-slowest : FindsSlowest
   pub follows-text : FollowsText
   pub paper-loop : PaperLoop
+  pub range-ends : RangeEnds
   pub step-unused : StepUnused
   pub least-common : LeastCommon
   pub plans-jobs : PlansJobs

@@ -1,6 +1,30 @@
 -- The laws of gcd and lcm. Users of the two go by these and never by Euclid's rule.
 use Prim.Native.Nat.{ℕ, zero, suc, _*_, _/_, _%_, _<_, _∣_}
-use native.Mathlib.Nat.{dvd-refl, dvd-zero, dvd-mod-iff, dvd-antisymm, dvd-mul-left, dvd-mul-right, dvd-mul-right-of-dvd, dvd-of-mul-dvd-mul-left, dvd-sub, mul-dvd-mul-left, mul-dvd-mul-right, eq-zero-of-zero-dvd, pos-of-dvd-of-pos, div-mul-cancel, mul-div-cancel', mod-def, mod-lt, mul-assoc, mul-comm, mul-le-mul-right, mul-sub, one-mul, zero-lt-suc}
+use native.Mathlib.Nat.{
+  dvd-refl,
+  dvd-zero,
+  dvd-mod-iff,
+  dvd-antisymm,
+  dvd-mul-left,
+  dvd-mul-right,
+  dvd-mul-right-of-dvd,
+  dvd-of-mul-dvd-mul-left,
+  dvd-sub,
+  mul-dvd-mul-left,
+  mul-dvd-mul-right,
+  eq-zero-of-zero-dvd,
+  pos-of-dvd-of-pos,
+  div-mul-cancel,
+  mul-div-cancel',
+  mod-def,
+  mod-lt,
+  mul-assoc,
+  mul-comm,
+  mul-le-mul-right,
+  mul-sub,
+  one-mul,
+  zero-lt-suc,
+}
 use native.Mathlib.Decide.{decLt}
 use native.Mathlib.Omega.{arith}
 use mathlib.Core.Path.{_≡_, refl, sym, ap, _∙_}
