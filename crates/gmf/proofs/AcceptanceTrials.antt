@@ -6,8 +6,8 @@ use Rattle.gmf.specs.Jobs.{window, hyperperiod, work, works}
 use Rattle.gmf.specs.Capacity.{insert, sortDescending, largest, capacity}
 use Rattle.gmf.specs.Growing.{slowest, raise, demand, holds, raisesLeft, raiseWhileFails, step, steps, growing, planOf}
 use Rattle.gmf.specs.Power.{total, cube, tabulate, cubes, defaultTable}
-use Rattle.gmf.specs.Trials.{Trials, quarters, jobsFrom, filed, outcomeOf, trials, run, twoJobs}
+use Rattle.gmf.specs.Trials.{Trials, machine, quarters, jobsFrom, filed, outcomeOf, trials, run, twoJobs}
 
 pub trials-hold : Trials
-unfolding lcm gcd euclid speed top window hyperperiod work works insert sortDescending largest capacity slowest raise demand holds raisesLeft raiseWhileFails step steps growing planOf total cube tabulate cubes defaultTable quarters jobsFrom filed outcomeOf trials run twoJobs
-trials-hold = record { as-listed = refl; two-at-three-draw = refl; two-at-three-fail = refl }
+unfolding lcm gcd euclid speed top window hyperperiod work works insert sortDescending largest capacity slowest raise demand holds raisesLeft raiseWhileFails step steps growing planOf total cube tabulate cubes defaultTable machine quarters jobsFrom filed outcomeOf trials run twoJobs
+trials-hold = record { as-listed = refl; two-at-three-draw = refl; two-at-three-fail = refl; off-quarters = refl }

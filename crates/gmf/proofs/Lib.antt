@@ -4,7 +4,6 @@ pub mod Capacity
 pub mod Raise
 pub mod Growing
 pub mod Steps
-pub mod Range
 pub mod OneLevel
 pub mod Majorization
 pub mod Strict
@@ -13,4 +12,5 @@ pub mod Retire
 pub mod Feasible
 pub mod Tables
 pub mod AcceptanceTrials
+pub mod Edges
 pub mod Results

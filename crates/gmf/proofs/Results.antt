@@ -7,7 +7,6 @@ use Rattle.gmf.proofs.Capacity.{same-tests}
 use Rattle.gmf.proofs.Raise.{finds-slowest}
 use Rattle.gmf.proofs.Growing.{finds-least, finds-none}
 use Rattle.gmf.proofs.Steps.{follows-text, paper-loop}
-use Rattle.gmf.proofs.Range.{range-ends}
 use Rattle.gmf.proofs.OneLevel.{step-unused}
 use Rattle.gmf.proofs.Majorization.{least-power}
 use Rattle.gmf.proofs.Strict.{only-plan}
@@ -16,6 +15,7 @@ use Rattle.gmf.proofs.Retire.{retires}
 use Rattle.gmf.proofs.Feasible.{feasible-iff-fits}
 use Rattle.gmf.proofs.Tables.{cubes-hold, default-table}
 use Rattle.gmf.proofs.AcceptanceTrials.{trials-hold}
+use Rattle.gmf.proofs.Edges.{range-edges, table-edges}
 
 pub plans-jobs : PlansJobs
 unfolding planOf
@@ -36,7 +36,6 @@ method = record {
   finds-slowest = finds-slowest;
   follows-text = follows-text;
   paper-loop = paper-loop;
-  range-ends = range-ends;
   step-unused = step-unused;
   least-common = least-common;
   plans-jobs = plans-jobs;
@@ -45,4 +44,6 @@ method = record {
   cubes = cubes-hold;
   default-table = default-table;
   trials = trials-hold;
+  range-edges = range-edges;
+  table-edges = table-edges;
 }

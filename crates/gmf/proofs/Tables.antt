@@ -9,7 +9,7 @@ use lib.ListN.{length, getD, set, replicate}
 use lib.Seq.{set-at, append-snoc}
 use Rattle.gmf.specs.declared.Machine.{Machine}
 use Rattle.gmf.specs.Machine.{speed, top}
-use Rattle.gmf.specs.Power.{power, rise, Convex, cube, tabulate, cubes, defaultTable}
+use Rattle.gmf.specs.Power.{power, rise, Convex, StrictlyConvex, cube, tabulate, cubes, defaultTable}
 use Rattle.gmf.specs.Claims.{Cubes, SpeedTable, DefaultTable}
 
 pub tabulate-length : (f : ℕ → ℕ) (n : ℕ) → length (tabulate f n) ≡ n
@@ -23,32 +23,37 @@ tabulate-at f zero j h = absurd (not-suc-le-zero h)
 tabulate-at f (suc n) zero h = refl
 tabulate-at f (suc n) (suc j) h = tabulate-at (λ i. f (suc i)) n j (le-of-suc-le-suc h)
 
--- A table of f is convex where, as far as it goes, f never falls and its second difference is not below 0.
-tabulate-convex : (f : ℕ → ℕ) (n : ℕ) → ((j : ℕ) → suc j < n → f j ≤ f (suc j))
-    → ((j : ℕ) → suc (suc j) < n → f (suc j) + f (suc j) ≤ f j + f (suc (suc j))) → Convex (tabulate f n)
-unfolding rise
-tabulate-convex f n up bend = record {
-  never-falls = λ j h. omega (arith, at j (omega arith), at (suc j) h, up j (in-table (suc j) h));
-  rises-never-shrink = λ j h. omega (arith, grow j h);
-}
-  where
-    in-table : (j : ℕ) → j < length (tabulate f n) → j < n
-    in-table j h = omega (arith, tabulate-length f n)
+-- ---- A table of the cubes of lowest, lowest + step and so on
 
-    at : (j : ℕ) → j < length (tabulate f n) → power (tabulate f n) j ≡ f j
-    at j h = tabulate-at f n j (in-table j h)
+module _ (table : List ℕ) (lowest step : ℕ) (law : (j : ℕ) → j < length table → power table j ≡ cube (lowest + j * step)) where
+  -- Each rise is larger than the one before by as much as step³, and so by 1 where the step is not 0.
+  module _ (e : ℕ) (small : e ≤ step * step * step) where
+    rising : (j : ℕ) → suc j < length table → power table j + e ≤ power table (suc j)
+    rising j h = rw (law j (omega arith), law (suc j) h) (unfold cube in (omega arith))
 
-    grow : (j : ℕ) → suc j < length (tabulate f n) → rise (tabulate f n) j ≤ rise (tabulate f n) (suc j)
-    grow zero h = zero-le
-    grow (suc j) h = omega (
+    rises-widen : (j : ℕ) → suc j < length table → rise table j + e ≤ rise table (suc j)
+    unfolding rise
+    rises-widen zero h = omega (arith, rising 0 h)
+    rises-widen (suc j) h = omega (
       arith,
-      at j (omega arith),
-      at (suc j) (omega arith),
-      at (suc (suc j)) h,
-      up j (in-table (suc j) (omega arith)),
-      up (suc j) (in-table (suc (suc j)) h),
-      bend j (in-table (suc (suc j)) h),
+      rising j (omega arith),
+      rising (suc j) h,
+      bend,
     )
+      where
+        bend : power table (suc j) + power table (suc j) + e ≤ power table j + power table (suc (suc j))
+        bend = rw (law j (omega arith), law (suc j) (omega arith), law (suc (suc j)) h) (unfold cube in (omega arith))
+
+  cubes-convex : Convex table
+  cubes-convex = record {
+    never-falls = λ j h. omega (arith, rising 0 zero-le j h);
+    rises-never-shrink = λ j h. omega (arith, rises-widen 0 zero-le j h);
+  }
+
+  cubes-strict : 0 < step → StrictlyConvex table
+  cubes-strict wide = record { rises-grow = λ j h. omega (arith, rises-widen 1 (mul-le-mul (mul-le-mul wide wide) wide) j h) }
+
+-- ---- The house table: lowest 0, step 1
 
 cubes-size : length cubes ≡ 257
 unfolding cubes
@@ -58,19 +63,19 @@ cube-at : (s : ℕ) → s ≤ 256 → power cubes s ≡ cube s
 unfolding cubes
 cube-at s h = tabulate-at cube 257 s (omega arith)
 
-cubes-rising : (s : ℕ) → s < 256 → power cubes s < power cubes (suc s)
-cubes-rising s h = rw (cube-at s (omega arith), cube-at (suc s) (omega arith)) (unfold cube in (omega arith))
-
-cubes-strict : (s : ℕ) → suc s < length cubes → rise cubes s < rise cubes (suc s)
-unfolding rise
-cubes-strict zero h = omega (arith, cubes-rising 0 (omega arith))
-cubes-strict (suc s) h =
-    let in-table : suc (suc s) ≤ 256 = omega (arith, cubes-size) in
-    rw (cube-at s (omega arith), cube-at (suc s) (omega arith), cube-at (suc (suc s)) in-table) (unfold cube in (omega arith))
+cube-law : (s : ℕ) → s < length cubes → power cubes s ≡ cube (0 + s * 1)
+cube-law s h = let e : 0 + s * 1 ≡ s = omega arith in rw e (cube-at s (omega (arith, cubes-size)))
 
 pub cubes-hold : Cubes
 unfolding cube
-cubes-hold = record { size = cubes-size; cube-rule = cube-at; rising = cubes-rising; convex = record { rises-grow = λ s h. omega (arith, cubes-strict s h) } }
+cubes-hold = record {
+  size = cubes-size;
+  cube-rule = cube-at;
+  rising = λ s h. omega (arith, rising cubes 0 1 cube-law 1 (omega arith) s (omega (arith, cubes-size)));
+  convex = record { rises-grow = λ s h. omega (arith, cubes-strict cubes 0 1 cube-law (omega arith) .rises-grow s h) };
+}
+
+-- ---- The default table of a machine
 
 module _ (M : Machine) (fast : top M ≤ 256) where
   -- No level is faster than the top one.
@@ -78,34 +83,32 @@ module _ (M : Machine) (fast : top M ≤ 256) where
   unfolding speed top
   slow j h = let le : j ≤ M .levels - 1 = omega arith in omega (arith, fast, mul-le-mul-right (M .step) le)
 
-  default-at : (j : ℕ) → j < M .levels → getD cubes (speed M j) 0 ≡ cube (speed M j)
-  default-at j h = cube-at (speed M j) (slow j h)
-
-  rising : (j : ℕ) → suc j < M .levels → getD cubes (speed M j) 0 ≤ getD cubes (speed M (suc j)) 0
-  rising j h = rw (default-at j (omega arith), default-at (suc j) h) (unfold cube speed in (omega arith))
-
-  bending : (j : ℕ) → suc (suc j) < M .levels
-      → getD cubes (speed M (suc j)) 0 + getD cubes (speed M (suc j)) 0 ≤ getD cubes (speed M j) 0 + getD cubes (speed M (suc (suc j))) 0
-  bending j h =
-      rw (default-at j (omega arith), default-at (suc j) (omega arith), default-at (suc (suc j)) h) (unfold cube speed in (omega arith))
-
   most : (s : ℕ) → s ≤ 256 → cube s ≤ 16777216
   unfolding cube
   most s h = mul-le-mul (mul-le-mul h h) h
 
-  at : (j : ℕ) → j < M .levels → power (defaultTable M) j ≡ cube (speed M j)
+  default-size : length (defaultTable M) ≡ M .levels
   unfolding defaultTable
-  at j h = tabulate-at (λ i. getD cubes (speed M i) 0) (M .levels) j h ∙ default-at j h
+  default-size = tabulate-length _ (M .levels)
+
+  default-at : (j : ℕ) → j < M .levels → power (defaultTable M) j ≡ cube (speed M j)
+  unfolding defaultTable
+  default-at j h = tabulate-at (λ i. getD cubes (speed M i) 0) (M .levels) j h ∙ cube-at (speed M j) (slow j h)
+
+  default-law : (j : ℕ) → j < length (defaultTable M) → power (defaultTable M) j ≡ cube (M .lowest + j * M .step)
+  unfolding speed
+  default-law j h = default-at j (omega (arith, default-size))
 
   default : SpeedTable M (defaultTable M)
-  unfolding defaultTable cube
+  unfolding cube
   default = record {
     is-table = record {
-      size = tabulate-length _ (M .levels);
-      range = λ j h. rw (at j h) (most (speed M j) (slow j h));
-      convex = tabulate-convex (λ j. getD cubes (speed M j) 0) (M .levels) rising bending;
+      size = default-size;
+      range = λ j h. rw (default-at j h) (most (speed M j) (slow j h));
+      convex = cubes-convex (defaultTable M) (M .lowest) (M .step) default-law;
     };
-    cube-law = at;
+    cube-law = default-at;
+    strict = cubes-strict (defaultTable M) (M .lowest) (M .step) default-law;
   }
 
 pub default-table : DefaultTable

@@ -7,12 +7,12 @@ use mathlib.Core.List.{List, [], _∷_, _++_}
 use lib.ListN.{length, take}
 use Rattle.gmf.specs.declared.Machine.{Machine}
 use Rattle.gmf.specs.declared.Job.{Job}
-use Rattle.gmf.specs.Machine.{speed, top, InRange}
+use Rattle.gmf.specs.Machine.{speed, top}
 use Rattle.gmf.specs.Jobs.{window, hyperperiod, work, works, Every}
 use Rattle.gmf.specs.Capacity.{sum, largest, level, IsPlan, Passes, PassesFor}
 use Rattle.gmf.specs.Growing.{Grown, NoPlan, slowest, raise, holds, step, steps, growing, planOf}
 use Rattle.gmf.specs.Power.{power, Convex, StrictlyConvex, IsTable, total, cubes, defaultTable}
-use Rattle.gmf.specs.Trials.{Trials}
+use Rattle.gmf.specs.Trials.{Trials, RangeEdges, TableEdges}
 
 -- ---- The method
 
@@ -106,12 +106,6 @@ abbrev pub PaperLoop : Type 0
 PaperLoop =
     (M : Machine) (H : ℕ) (ws : List ℕ) → growing M H ws ≡ steps M H ws (min (M .processors) (length ws))
 
--- Both ends of every range of a machine are in range.
-pub record RangeEnds : Type 0 where
-  pub least : InRange (record { processors = 1; levels = 1; lowest = 1; step = 1 })
-  pub most : InRange (record { processors = 32; levels = 32; lowest = 8; step = 8 })
-  pub fastest : InRange (record { processors = 1; levels = 1; lowest = 256; step = 255 })
-
 -- "With one level d is still given and has no effect."
 abbrev pub StepUnused : Type 0
 StepUnused =
@@ -184,6 +178,8 @@ Cubes = CubeTable cubes
 pub record SpeedTable (M : Machine) (table : List ℕ) : Type 0 where
   pub is-table : IsTable M table
   pub cube-law : (j : ℕ) → j < M .levels → power table j ≡ speed M j * speed M j * speed M j
+  -- With a step above 0 it is strict: no other plan that passes draws as little as the one grown.
+  pub strict : 0 < M .step → StrictlyConvex table
 
 abbrev pub DefaultTable : Type 0
 DefaultTable = (M : Machine) → top M ≤ 256 → SpeedTable M (defaultTable M)
@@ -200,7 +196,6 @@ pub record Method : Type 0 where
   pub finds-slowest : FindsSlowest
   pub follows-text : FollowsText
   pub paper-loop : PaperLoop
-  pub range-ends : RangeEnds
   pub step-unused : StepUnused
   pub least-common : LeastCommon
   pub plans-jobs : PlansJobs
@@ -209,3 +204,5 @@ pub record Method : Type 0 where
   pub cubes : Cubes
   pub default-table : DefaultTable
   pub trials : Trials
+  pub range-edges : RangeEdges
+  pub table-edges : TableEdges

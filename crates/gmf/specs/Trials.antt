@@ -7,13 +7,18 @@ use mathlib.Core.Bool.{false}
 use mathlib.Core.List.{List, [], _∷_, map}
 use Rattle.gmf.specs.declared.Machine.{Machine}
 use Rattle.gmf.specs.declared.Job.{Job}
+use Rattle.gmf.specs.Machine.{InRange}
 use Rattle.gmf.specs.Jobs.{hyperperiod, works}
 use Rattle.gmf.specs.Growing.{Growth, Grown, NoPlan, holds, planOf}
-use Rattle.gmf.specs.Power.{total, defaultTable}
+use Rattle.gmf.specs.Power.{IsTable, total, defaultTable}
+
+-- A machine from m, L, b and d, in the order of 01's frame 01.
+unfoldable pub machine : ℕ → ℕ → ℕ → ℕ → Machine
+machine m L b d = record { processors = m; levels = L; lowest = b; step = d }
 
 -- "… quarters: b = 1, d = 1, L = 4 …".
 unfoldable pub quarters : ℕ → Machine
-quarters m = record { processors = m; levels = 4; lowest = 1; step = 1 }
+quarters m = machine m 4 1 1
 
 -- Jobs with the ids from `id` on, each given as C over T.
 unfoldable pub jobsFrom : ℕ → List (ℕ × ℕ) → List Job
@@ -76,3 +81,33 @@ pub record Trials : Type 0 where
   pub as-listed : map run trials ≡ map (λ t. t .result) trials
   pub two-at-three-draw : total (defaultTable (quarters 2)) (2 ∷ 2 ∷ []) ≡ 54
   pub two-at-three-fail : holds (quarters 2) (hyperperiod twoJobs) (works twoJobs) 1 (2 ∷ 2 ∷ []) ≡ false
+  -- Worked by hand, where the marked trials have one period, b = d and falling costs. Speeds 2, 5 and 8; jobs 1/3 and 3/4, so H is 12
+  -- and the works are 4 and 9. Test 1: 8 × 9 = 72 is above 12 × 5 and at most 12 × 8. Test 2: 8 × 13 = 104 is at most 12 × (8 + 2).
+  pub off-quarters : outcomeOf (machine 2 3 2 3) (jobsFrom 1 ((1, 3) ∷ (3, 4) ∷ [])) ≡ Planned 12 (2 ∷ 0 ∷ []) 2 520
+
+-- The last machine inside each bound of 01's ranges, and the first outside.
+pub record RangeEdges : Type 0 where
+  pub least : InRange (machine 1 1 1 1)
+  pub most : InRange (machine 32 32 8 8)
+  pub lowest-256 : InRange (machine 1 1 256 1)
+  pub step-255 : InRange (machine 1 2 1 255)
+  pub no-processor : InRange (machine 0 1 1 1) → ⊥
+  pub processors-33 : InRange (machine 33 1 1 1) → ⊥
+  pub no-level : InRange (machine 1 0 1 1) → ⊥
+  pub levels-33 : InRange (machine 1 33 1 1) → ⊥
+  pub no-speed : InRange (machine 1 1 0 1) → ⊥
+  pub lowest-257 : InRange (machine 1 1 257 1) → ⊥
+  pub no-step : InRange (machine 1 1 1 0) → ⊥
+  pub step-256 : InRange (machine 1 1 1 256) → ⊥
+  pub top-257 : InRange (machine 1 2 2 255) → ⊥
+
+-- "Tables for three levels: 18 48 100 and 5 5 5 accepted; 0 5 9 refused 3." And each rule of a table by itself.
+pub record TableEdges : Type 0 where
+  pub rising : IsTable (machine 1 3 1 1) (18 ∷ 48 ∷ 100 ∷ [])
+  pub flat : IsTable (machine 1 3 1 1) (5 ∷ 5 ∷ 5 ∷ [])
+  pub shrinking : IsTable (machine 1 3 1 1) (0 ∷ 5 ∷ 9 ∷ []) → ⊥
+  pub falling : IsTable (machine 1 3 1 1) (5 ∷ 4 ∷ 4 ∷ []) → ⊥
+  pub largest-value : IsTable (machine 1 3 1 1) (0 ∷ 0 ∷ 16777216 ∷ [])
+  pub too-large : IsTable (machine 1 3 1 1) (0 ∷ 0 ∷ 16777217 ∷ []) → ⊥
+  pub too-short : IsTable (machine 1 3 1 1) (5 ∷ 5 ∷ []) → ⊥
+  pub too-long : IsTable (machine 1 3 1 1) (5 ∷ 5 ∷ 5 ∷ 5 ∷ []) → ⊥

@@ -63,8 +63,8 @@ gcd-is a b = record {
   greatest = λ d p q. rw one-mul at (kept a b .scaled 1 d (rw one-mul p) (rw one-mul q));
 }
 
-pub gcd-unique : {a b g : ℕ} → IsGcd a b g → g ≡ gcd a b
-gcd-unique {a} {b} {g} is =
+pub gcd-only : (a b g : ℕ) → IsGcd a b g → g ≡ gcd a b
+gcd-only a b g is =
     dvd-antisymm (gcd-is a b .greatest g (is .left) (is .right)) (is .greatest (gcd a b) (gcd-is a b .left) (gcd-is a b .right))
 
 pub gcd-zero-right : (a : ℕ) → gcd a 0 ≡ a
@@ -72,13 +72,13 @@ unfolding gcd euclid
 gcd-zero-right a = refl
 
 pub gcd-zero-left : (b : ℕ) → gcd 0 b ≡ b
-gcd-zero-left b = sym (gcd-unique record { left = dvd-zero b; right = dvd-refl b; greatest = λ d p q. q })
+gcd-zero-left b = sym (gcd-only 0 b b record { left = dvd-zero b; right = dvd-refl b; greatest = λ d p q. q })
 
 -- One step of Euclid's rule.
 pub gcd-step : (a b : ℕ) → gcd b (a % b) ≡ gcd a b
 gcd-step a b =
     let rest = gcd-is b (a % b) in
-    gcd-unique
+    gcd-only a b _
     record {
       left = dvd-mod-iff _ (rest .left) .0 (rest .right);
       right = rest .left;
@@ -119,6 +119,10 @@ lcm-is a b = record {
   least = lcm-divides a b;
 }
 
+pub lcm-only : (a b l : ℕ) → IsLcm a b l → l ≡ lcm a b
+lcm-only a b l is =
+    dvd-antisymm (is .least (lcm a b) (lcm-is a b .left) (lcm-is a b .right)) (lcm-is a b .least l (is .left) (is .right))
+
 pub lcm-zero-left : (b : ℕ) → lcm 0 b ≡ 0
 lcm-zero-left b = eq-zero-of-zero-dvd (lcm-is 0 b .left)
 
@@ -134,6 +138,8 @@ pub divisor-laws : DivisorLaws
 divisor-laws = record {
   gcd-is = gcd-is;
   lcm-is = lcm-is;
+  gcd-only = gcd-only;
+  lcm-only = lcm-only;
   gcd-zero-left = gcd-zero-left;
   gcd-zero-right = gcd-zero-right;
   lcm-zero-left = lcm-zero-left;

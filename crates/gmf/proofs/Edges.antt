@@ -1,0 +1,73 @@
+-- Machines and tables at the edges of their ranges.
+use Prim.Native.Nat.{ℕ, zero, suc, _+_, _≤_, _<_, zero-le}
+use native.Mathlib.Nat.{not-suc-le-zero, le-of-suc-le-suc}
+use native.Mathlib.Omega.{arith}
+use mathlib.Core.Path.{refl}
+use mathlib.Core.List.{List, [], _∷_}
+use Rattle.gmf.specs.Machine.{speed, top}
+use Rattle.gmf.specs.Power.{power, rise, IsTable}
+use Rattle.gmf.specs.Trials.{machine, RangeEdges, TableEdges}
+
+pub range-edges : RangeEdges
+unfolding machine speed top
+range-edges = record {
+  least = omega arith;
+  most = omega arith;
+  lowest-256 = omega arith;
+  step-255 = omega arith;
+  no-processor = omega arith;
+  processors-33 = omega arith;
+  no-level = omega arith;
+  levels-33 = omega arith;
+  no-speed = omega arith;
+  lowest-257 = omega arith;
+  no-step = omega arith;
+  step-256 = omega arith;
+  top-257 = omega arith;
+}
+
+-- What holds at 0, 1 and 2 holds below 3.
+below-three : (P : ℕ → Type 0) → P 0 → P 1 → P 2 → (j : ℕ) → j < 3 → P j
+below-three P a b c zero h = a
+below-three P a b c (suc zero) h = b
+below-three P a b c (suc (suc zero)) h = c
+below-three P a b c (suc (suc (suc j))) h = absurd (not-suc-le-zero (le-of-suc-le-suc (le-of-suc-le-suc (le-of-suc-le-suc h))))
+
+-- A table of three numbers is one when it is convex and its last number is in range.
+module _ (x y z : ℕ) (up : x ≤ y) (up′ : y ≤ z) (bend : y + y ≤ x + z) (range : z ≤ 16777216) where
+  abbrev table : List ℕ
+  table = x ∷ y ∷ z ∷ []
+
+  in-range : (j : ℕ) → j < 3 → power table j ≤ 16777216
+  in-range = below-three (λ j. power table j ≤ 16777216) (omega arith) (omega arith) (omega arith)
+
+  never-falls : (j : ℕ) → j < 3 → suc j < 3 → power table j ≤ power table (suc j)
+  never-falls = below-three (λ j. suc j < 3 → power table j ≤ power table (suc j)) (λ _. up) (λ _. up′) (λ h. absurd (omega arith))
+
+  never-shrink : (j : ℕ) → j < 3 → suc j < 3 → rise table j ≤ rise table (suc j)
+  unfolding rise
+  never-shrink = below-three (λ j. suc j < 3 → rise table j ≤ rise table (suc j)) (λ _. zero-le) (λ _. omega arith) (λ h. absurd (omega arith))
+
+  three : IsTable (machine 1 3 1 1) table
+  unfolding machine
+  three = record {
+    size = refl;
+    range = λ j h. omega (arith, in-range j h);
+    convex = record {
+      never-falls = λ j h. omega (arith, never-falls j (omega arith) h);
+      rises-never-shrink = λ j h. omega (arith, never-shrink j (omega arith) h);
+    };
+  }
+
+pub table-edges : TableEdges
+unfolding machine rise
+table-edges = record {
+  rising = three 18 48 100 (omega arith) (omega arith) (omega arith) (omega arith);
+  flat = three 5 5 5 (omega arith) (omega arith) (omega arith) (omega arith);
+  shrinking = λ t. omega (arith, t .convex .rises-never-shrink 1 (omega arith));
+  falling = λ t. omega (arith, t .convex .never-falls 0 (omega arith));
+  largest-value = three 0 0 16777216 (omega arith) (omega arith) (omega arith) (omega arith);
+  too-large = λ t. omega (arith, t .range 2 (omega arith));
+  too-short = λ t. omega (arith, t .size);
+  too-long = λ t. omega (arith, t .size);
+}
