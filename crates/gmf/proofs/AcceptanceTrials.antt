@@ -10,4 +10,4 @@ use Rattle.gmf.specs.Trials.{Trials, machine, quarters, jobsFrom, filed,
 
 pub trials-hold : Trials
 unfolding lcm gcd euclid speed top window hyperperiod work works insert sortDescending largest capacity slowest raise demand holds raisesLeft raiseWhileFails step steps growing planOf total cube tabulate cubes defaultTable machine quarters jobsFrom filed outcomeOf trials run twoJobs
-trials-hold = record { as-listed = refl; two-at-three-draw = refl; two-at-three-fail = refl; off-quarters = refl }
+trials-hold = record { count = refl; as-listed = refl; two-at-three-draw = refl; two-at-three-fail = refl; off-quarters = refl }

@@ -1,15 +1,16 @@
 -- With one level every plan is at level 0 throughout, so the step between speeds has no effect.
-use Prim.Native.Nat.{ℕ, suc, _*_, _≤_, _<_}
+use Prim.Native.Nat.{ℕ, suc, _+_, _*_, _≤_, _<_}
 use native.Mathlib.Nat.{le-refl}
 use native.Mathlib.Omega.{arith}
 use mathlib.Core.Path.{_≡_, refl, ap, ap₂, sym, subst, _∙_}
-use mathlib.Core.List.{List}
-use lib.ListN.{replicate, length-replicate}
+use mathlib.Core.List.{List, [], _∷_}
+use lib.ListN.{getD, replicate, length-replicate}
 use lib.Seq.{ext-getD}
 use Rattle.gmf.specs.declared.Machine.{Machine}
 use Rattle.gmf.specs.Machine.{speed, top}
 use Rattle.gmf.specs.Capacity.{sum, capacity, IsPlan, Passes}
 use Rattle.gmf.specs.Growing.{Growth, Grown, NoPlan, growing}
+use Rattle.gmf.specs.Power.{tabulate, cubes, defaultTable}
 use Rattle.gmf.specs.Claims.{StepUnused}
 use Rattle.gmf.proofs.Sums.{first-of-zeros, level-of-zeros}
 use Rattle.gmf.proofs.Capacity.{capacity-sum}
@@ -71,5 +72,12 @@ module _ (H : ℕ) (ws : List ℕ) where
         (carried M′ M one′ one (sym m) (sym b) (subst (Passes M′ H ws) (only-zeros M′ one′ plan′ (l′ .is-plan)) (l′ .passing))))
     same NoPlan NoPlan e e′ = refl
 
+table-lowest : (M : Machine) → M .levels ≡ 1 → defaultTable M ≡ getD cubes (M .lowest) 0 ∷ []
+unfolding defaultTable tabulate speed
+table-lowest M one = let e : M .lowest + 0 * M .step ≡ M .lowest = omega arith in rw (one, tabulate, e)
+
 pub step-unused : StepUnused
-step-unused M M′ pos one one′ m b H ws = same H ws M M′ pos one one′ m b (growing M H ws) (growing M′ H ws) refl refl
+step-unused M M′ pos one one′ m b H ws = (
+  same H ws M M′ pos one one′ m b (growing M H ws) (growing M′ H ws) refl refl,
+  table-lowest M one ∙ ap (λ (s : ℕ). getD cubes s 0 ∷ []) b ∙ sym (table-lowest M′ one′),
+)

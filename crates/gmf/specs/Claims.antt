@@ -14,7 +14,7 @@ use Rattle.gmf.specs.Growing.{Grown, NoPlan, slowest, raise, holds, step
 use Rattle.gmf.specs.Power.{power, Convex, StrictlyConvex, IsTable, total, cubes, defaultTable}
 use Rattle.gmf.specs.Trials.{Trials, RangeEdges, TableEdges}
 
--- ---- The method
+-- ---- The method: for every machine with at least one processor and one level, every H and every list of works
 
 -- What is meant by the least plan that passes with the works ws in H ticks.
 pub record Least (M : Machine) (H : ℕ) (ws plan : List ℕ) (raises : ℕ) : Type 0 where
@@ -95,7 +95,7 @@ pub record StepRule (M : Machine) (H : ℕ) (ws : List ℕ) (i : ℕ) (plan : Li
   -- What is raised so is a plan again.
   pub raised-plan : (k : ℕ) → k < i → level plan k < M .levels - 1 → IsPlan M (raise i plan)
 
--- Every step that growing makes is of this kind.
+-- At every plan and every step from 1 to m.
 abbrev pub FollowsText : Type 0
 FollowsText =
     (M : Machine) (H : ℕ) (ws : List ℕ) (i : ℕ) → 1 ≤ i → i ≤ M .processors
@@ -106,13 +106,13 @@ abbrev pub PaperLoop : Type 0
 PaperLoop =
     (M : Machine) (H : ℕ) (ws : List ℕ) → growing M H ws ≡ steps M H ws (min (M .processors) (length ws))
 
--- "With one level d is still given and has no effect."
+-- "With one level d is still given and has no effect": machines that differ in it grow the same plan and have the same table.
 abbrev pub StepUnused : Type 0
 StepUnused =
     (M M′ : Machine) → 0 < M .processors → M .levels ≡ 1 → M′ .levels ≡ 1 → M .processors ≡ M′ .processors → M .lowest ≡ M′ .lowest
-    → (H : ℕ) (ws : List ℕ) → growing M H ws ≡ growing M′ H ws
+    → (H : ℕ) (ws : List ℕ) → (growing M H ws ≡ growing M′ H ws) × (defaultTable M ≡ defaultTable M′)
 
--- ---- Jobs
+-- ---- Jobs: for every list of them with windows above 0
 
 -- Every job has a window above 0, as 01's range of T says.
 abbrev pub PositiveWindows : List Job → Type 0
@@ -140,17 +140,19 @@ pub record Plans (M : Machine) (jobs : List Job) : Type 0 where
 abbrev pub PlansJobs : Type 0
 PlansJobs = (M : Machine) → 0 < M .processors → 0 < M .levels → (jobs : List Job) → Plans M jobs
 
--- One job fewer, with the hyperperiod that the rest has: a plan that passed still passes, and the hyperperiod does not grow.
+-- Some plan passes for the jobs.
+abbrev pub Feasible : Machine → List Job → Type 0
+Feasible M jobs = (plan : List ℕ) × IsPlan M plan × PassesFor M jobs plan
+
+-- One job fewer, with the hyperperiod that the rest has: a plan that passed still passes, so that some plan does, and the
+-- hyperperiod does not grow.
 pub record OneFewer (before after : List Job) (job : Job) : Type 0 where
   pub passes : (M : Machine) (plan : List ℕ) → PassesFor M (before ++ job ∷ after) plan → PassesFor M (before ++ after) plan
+  pub feasible : (M : Machine) → Feasible M (before ++ job ∷ after) → Feasible M (before ++ after)
   pub shorter : hyperperiod (before ++ after) ≤ hyperperiod (before ++ job ∷ after)
 
 abbrev pub Retires : Type 0
 Retires = (before after : List Job) (job : Job) → PositiveWindows (before ++ job ∷ after) → OneFewer before after job
-
--- Some plan passes for the jobs.
-abbrev pub Feasible : Machine → List Job → Type 0
-Feasible M jobs = (plan : List ℕ) × IsPlan M plan × PassesFor M jobs plan
 
 -- Every cost is at most its window ("C may exceed T; such a job fits no plan"), and the sum of the works is at most m × H.
 pub record Fits (M : Machine) (jobs : List Job) : Type 0 where

@@ -5,6 +5,7 @@ use Prim.Native.Nat.{ℕ, suc}
 use mathlib.Core.Path.{_≡_}
 use mathlib.Core.Bool.{false}
 use mathlib.Core.List.{List, [], _∷_, map}
+use lib.ListN.{length}
 use Rattle.gmf.specs.declared.Machine.{Machine}
 use Rattle.gmf.specs.declared.Job.{Job}
 use Rattle.gmf.specs.Machine.{InRange}
@@ -30,6 +31,7 @@ pub data Outcome : Type 0 where
   Planned : ℕ → List ℕ → ℕ → ℕ → Outcome
   Refused : ℕ → Outcome
 
+-- What is filed of a growth. Refusal 17: "No plan passes with the new job."
 unfoldable pub filed : Machine → List Job → Growth → Outcome
 filed M jobs (Grown plan raises) = Planned (hyperperiod jobs) plan raises (total (defaultTable M) plan)
 filed M jobs NoPlan = Refused 17
@@ -78,6 +80,7 @@ unfoldable pub twoJobs : List Job
 twoJobs = jobsFrom 1 ((4, 4) ∷ (1, 4) ∷ [])
 
 pub record Trials : Type 0 where
+  pub count : length trials ≡ 12
   pub as-listed : map run trials ≡ map (λ t. t .result) trials
   pub two-at-three-draw : total (defaultTable (quarters 2)) (2 ∷ 2 ∷ []) ≡ 54
   pub two-at-three-fail : holds (quarters 2) (hyperperiod twoJobs) (works twoJobs) 1 (2 ∷ 2 ∷ []) ≡ false
@@ -90,7 +93,7 @@ pub record RangeEdges : Type 0 where
   pub least : InRange (machine 1 1 1 1)
   pub most : InRange (machine 32 32 8 8)
   pub lowest-256 : InRange (machine 1 1 256 1)
-  pub step-255 : InRange (machine 1 2 1 255)
+  pub step-255 : InRange (machine 32 2 1 255)
   pub no-processor : InRange (machine 0 1 1 1) → ⊥
   pub processors-33 : InRange (machine 33 1 1 1) → ⊥
   pub no-level : InRange (machine 1 0 1 1) → ⊥
