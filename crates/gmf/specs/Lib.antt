@@ -4,9 +4,12 @@
 --   r .f                the field f of a record r
 --   a - b               a less b, and 0 where b is larger; a * b, a / b, a % b: product, whole quotient, remainder
 --   A → B, (k : ℕ) → B  if A then B; B for every whole number k from 0
---   A × B, A ↔ B, ⊥     both (in comments × multiplies, as in 01); each follows from the other; what never holds
+--   A × B, A ↔ B        both (in comments × multiplies, as in 01); each follows from the other
+--   Unit, ⊥             what always holds; what never does
+--   d ∣ n               d divides n
+--   λ x. e              the function that takes x to e
 --   [], x ∷ l, l ++ k   the empty list; x and then l; l and then k
---   take k l, map f l   the first k of l; f of each of l
+--   length l, take k l, map f l   how many; the first k of l; f of each of l
 --   replicate n x       n times x
 --   getD l k d          what stands in l at the place k, counted from 0; d past the end
 --   set l k x           l with x at the place k
