@@ -1,12 +1,15 @@
--- Machines and tables at the edges of their ranges.
+-- Machines, tables and jobs at the edges of what is asked of them.
 use Prim.Native.Nat.{ℕ, zero, suc, _+_, _≤_, _<_, zero-le}
 use native.Mathlib.Nat.{not-suc-le-zero, le-of-suc-le-suc}
 use native.Mathlib.Omega.{arith}
 use mathlib.Core.Path.{refl}
 use mathlib.Core.List.{List, [], _∷_}
+use Rattle.number.specs.Divisors.{lcm, gcd, euclid}
 use Rattle.gmf.specs.Machine.{speed, top}
+use Rattle.gmf.specs.Jobs.{window, hyperperiod, work, works}
 use Rattle.gmf.specs.Power.{power, rise, IsTable}
-use Rattle.gmf.specs.Trials.{machine, RangeEdges, TableEdges}
+use Rattle.gmf.specs.Trials.{machine, quarters, jobsFrom, RangeEdges, TableEdges}
+use Rattle.gmf.specs.Claims.{FitsEdges}
 
 pub range-edges : RangeEdges
 unfolding machine speed top
@@ -70,4 +73,15 @@ table-edges = record {
   too-large = λ t. omega (arith, t .range 2 (omega arith));
   too-short = λ t. omega (arith, t .size);
   too-long = λ t. omega (arith, t .size);
+}
+
+pub fits-edges : FitsEdges
+unfolding lcm gcd euclid window hyperperiod work works machine quarters jobsFrom
+fits-edges = record {
+  positive = (omega arith, (omega arith, tt));
+  not-positive = λ h. omega arith;
+  no-jobs = record { each = tt; all = omega arith };
+  full = record { each = (omega arith, (omega arith, tt)); all = omega arith };
+  cost-above-window = λ f. omega arith;
+  works-above-machine = λ f. omega arith;
 }

@@ -15,7 +15,7 @@ use Rattle.gmf.proofs.Retire.{retires}
 use Rattle.gmf.proofs.Feasible.{feasible-iff-fits}
 use Rattle.gmf.proofs.Tables.{cubes-hold, default-table}
 use Rattle.gmf.proofs.AcceptanceTrials.{trials-hold}
-use Rattle.gmf.proofs.Edges.{range-edges, table-edges}
+use Rattle.gmf.proofs.Edges.{range-edges, table-edges, fits-edges}
 
 pub plans-jobs : PlansJobs
 unfolding planOf
@@ -41,6 +41,7 @@ method = record {
   plans-jobs = plans-jobs;
   retires = retires;
   feasible-iff-fits = feasible-iff-fits;
+  fits-edges = fits-edges;
   cubes = cubes-hold;
   default-table = default-table;
   trials = trials-hold;

@@ -1,5 +1,5 @@
--- Sums of the first k numbers of a list, and two ways to go on from a test.
-use Prim.Native.Nat.{ℕ, zero, suc, _+_, _*_, _≤_, _<_, zero-le}
+-- Sums of the first k numbers of a list, and what the proofs over such lists share.
+use Prim.Native.Nat.{ℕ, zero, suc, _+_, _*_, _≤_, _<_, min, zero-le}
 use native.Mathlib.Nat.{le-refl, le-trans, not-suc-le-zero, le-of-suc-le-suc}
 use native.Mathlib.Decide.{decLt, le-ind}
 use native.Mathlib.Omega.{arith}
@@ -54,17 +54,6 @@ first-suc (suc k) (x ∷ xs) = omega (arith, first-suc k xs)
 pub first-mono : (j k : ℕ) (l : List ℕ) → j ≤ k → first j l ≤ first k l
 first-mono j k l = le-ind (λ k. first j l ≤ first k l) (le-refl (first j l)) (λ k _ t. omega (arith, first-suc k l)) k
 
-pub first-of-zeros : (n k : ℕ) → first k (replicate n 0) ≡ 0
-first-of-zeros zero zero = refl
-first-of-zeros zero (suc k) = refl
-first-of-zeros (suc n) zero = refl
-first-of-zeros (suc n) (suc k) = omega (arith, first-of-zeros n k)
-
-pub level-of-zeros : (n k : ℕ) → level (replicate n 0) k ≡ 0
-level-of-zeros zero k = refl
-level-of-zeros (suc n) zero = refl
-level-of-zeros (suc n) (suc k) = level-of-zeros n k
-
 pub first-at-most : (v : ℕ) (l : List ℕ) → ((k : ℕ) → level l k ≤ v) → (i : ℕ) → first i l ≤ i * v
 first-at-most v l h zero = zero-le
 first-at-most v l h (suc i) = omega (arith, first-at-most v l h i, first-suc i l, h i)
@@ -72,6 +61,23 @@ first-at-most v l h (suc i) = omega (arith, first-at-most v l h i, first-suc i l
 pub first-at-least : (v : ℕ) (l : List ℕ) (i : ℕ) → ((k : ℕ) → k < i → v ≤ level l k) → i * v ≤ first i l
 first-at-least v l zero h = omega arith
 first-at-least v l (suc i) h = omega (arith, first-at-least v l i (λ k t. h k (omega arith)), first-suc i l, h i (le-refl (suc i)))
+
+-- ---- The same number throughout
+
+pub first-replicate : (n v k : ℕ) → first k (replicate n v) ≡ min k n * v
+first-replicate n v zero = let e : min 0 n ≡ 0 = omega arith in rw e (omega arith)
+first-replicate zero v (suc k) = let e : min (suc k) 0 ≡ 0 = omega arith in rw e (omega arith)
+first-replicate (suc n) v (suc k) = let e : min (suc k) (suc n) ≡ suc (min k n) = omega arith in rw e (omega (arith, first-replicate n v k))
+
+pub level-replicate : (n v k : ℕ) → level (replicate n v) k ≤ v
+level-replicate zero v k = zero-le
+level-replicate (suc n) v zero = le-refl v
+level-replicate (suc n) v (suc k) = level-replicate n v k
+
+pub falling-replicate : (n v : ℕ) → Falling (replicate n v)
+falling-replicate zero v k = zero-le
+falling-replicate (suc n) v zero = level-replicate n v 0
+falling-replicate (suc n) v (suc k) = falling-replicate n v k
 
 -- ---- One more at the place p
 

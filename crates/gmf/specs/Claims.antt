@@ -12,7 +12,7 @@ use Rattle.gmf.specs.Jobs.{window, hyperperiod, work, works, Every}
 use Rattle.gmf.specs.Capacity.{sum, largest, level, IsPlan, Passes, PassesFor}
 use Rattle.gmf.specs.Growing.{Grown, NoPlan, slowest, raise, holds, step, steps, growing, planOf}
 use Rattle.gmf.specs.Power.{power, Convex, StrictlyConvex, IsTable, total, cubes, defaultTable}
-use Rattle.gmf.specs.Trials.{Trials, RangeEdges, TableEdges}
+use Rattle.gmf.specs.Trials.{quarters, jobsFrom, Trials, RangeEdges, TableEdges}
 
 -- ---- The method: for every machine with at least one processor and one level, every H and every list of works
 
@@ -164,6 +164,15 @@ abbrev pub FeasibleIffFits : Type 0
 FeasibleIffFits =
     (M : Machine) → 0 < M .processors → 0 < M .levels → 0 < top M → (jobs : List Job) → PositiveWindows jobs → Feasible M jobs ↔ Fits M jobs
 
+-- What is asked of jobs can be met, and each part of it can fail by itself.
+pub record FitsEdges : Type 0 where
+  pub positive : PositiveWindows (jobsFrom 1 ((1, 3) ∷ (3, 4) ∷ []))
+  pub not-positive : PositiveWindows (jobsFrom 1 ((1, 3) ∷ (3, 0) ∷ [])) → ⊥
+  pub no-jobs : Fits (quarters 1) []
+  pub full : Fits (quarters 1) (jobsFrom 1 ((1, 2) ∷ (1, 2) ∷ []))
+  pub cost-above-window : Fits (quarters 2) (jobsFrom 1 ((1, 10) ∷ (11, 10) ∷ [])) → ⊥
+  pub works-above-machine : Fits (quarters 1) (jobsFrom 1 ((1, 2) ∷ (1, 2) ∷ (1, 2) ∷ [])) → ⊥
+
 -- ---- The default table
 
 -- The cube rule at each of the 257 places; the whole table rises, and its rises grow.
@@ -203,6 +212,7 @@ pub record Method : Type 0 where
   pub plans-jobs : PlansJobs
   pub retires : Retires
   pub feasible-iff-fits : FeasibleIffFits
+  pub fits-edges : FitsEdges
   pub cubes : Cubes
   pub default-table : DefaultTable
   pub trials : Trials
