@@ -1,8 +1,14 @@
 -- Jobs, their hyperperiod and their works (01, "Jobs, cores and the cycle"). A job has an `id`, a `cost` C and a `period` T.
-use Prim.Native.Nat.{ℕ, _*_, _/_}
+use Prim.Native.Nat.{ℕ, _*_, _/_, _≤_, _<_}
 use mathlib.Core.List.{List, [], _∷_, map}
 use Rattle.number.specs.Divisors.{lcm}
 use Rattle.gmf.specs.declared.Job.{Job}
+
+-- "A job has an id, a cost C and a period T, each 1 to 65,535."
+pub record JobInRange (job : Job) : Type 0 where
+  pub id : (1 ≤ job .id) × (job .id ≤ 65535)
+  pub cost : (1 ≤ job .cost) × (job .cost ≤ 65535)
+  pub period : (1 ≤ job .period) × (job .period ≤ 65535)
 
 -- "It needs C ticks of work at top speed in every T ticks. … The deadline is the end of the period." The ticks in which a job must
 -- get its cost:
@@ -13,6 +19,10 @@ window job = job .period
 unfoldable pub hyperperiod : List Job → ℕ
 hyperperiod [] = 1
 hyperperiod (job ∷ jobs) = lcm (window job) (hyperperiod jobs)
+
+-- "H is at most 16,777,216."
+abbrev pub hyperperiodLimit : ℕ
+hyperperiodLimit = 16777216
 
 -- "The work of a job is C × (H / T), a whole number."
 unfoldable pub work : ℕ → Job → ℕ
@@ -26,3 +36,8 @@ works jobs = map (work (hyperperiod jobs)) jobs
 abbrev pub Every : (Job → Type 0) → List Job → Type 0
 Every P [] = Unit {0}
 Every P (job ∷ jobs) = P job × Every P jobs
+
+-- "Jobs stand by rising id …".
+abbrev pub ByRisingId : List Job → Type 0
+ByRisingId [] = Unit {0}
+ByRisingId (job ∷ jobs) = Every (λ other. job .id < other .id) jobs × ByRisingId jobs

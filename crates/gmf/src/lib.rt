@@ -4,6 +4,7 @@ ghost use mathlib.Core.List.{_++_};
 ghost use Prim.Native.Nat.{_-_};
 ghost use lib.ListN.{replicate};
 ghost use Rattle.gmf.specs.Machine.{InRange};
+ghost use Rattle.gmf.specs.Jobs.{window};
 ghost use Rattle.gmf.specs.Power.{defaultTable};
 
 mod cubes;
@@ -23,6 +24,15 @@ pub struct Job {
     pub id: u16,
     pub cost: u16,
     pub period: u16,
+}
+
+impl Job {
+    // The ticks in which the job must get its cost.
+    pub fn window(self) -> u16
+        ensures { λ r. ⌜ r ≡ window self ⌝ }
+    {
+        self.period
+    }
 }
 
 impl Machine {

@@ -1,7 +1,7 @@
 -- The laws of gcd and lcm. Users of the two go by these and never by Euclid's rule.
 use Prim.Native.Nat.{ℕ, zero, suc, _*_, _/_, _%_, _<_, _∣_}
 use native.Mathlib.Nat.{
-  dvd-refl,
+  dvd-refl, dvd-trans,
   dvd-zero,
   dvd-mod-iff,
   dvd-antisymm,
@@ -88,8 +88,13 @@ gcd-step a b =
 pub gcd-pos : (a b : ℕ) → 0 < a → 0 < gcd a b
 gcd-pos a b h = pos-of-dvd-of-pos (gcd-is a b .left) h
 
+pub gcd-swap : (a b : ℕ) → gcd a b ≡ gcd b a
+gcd-swap a b =
+    let is = gcd-is a b in
+    gcd-only b a (gcd a b) record { left = is .right; right = is .left; greatest = λ d p q. is .greatest d q p }
+
 -- The quotient by the gcd may be taken of either number.
-lcm-other : (a b : ℕ) → lcm a b ≡ a * (b / gcd a b)
+pub lcm-other : (a b : ℕ) → lcm a b ≡ a * (b / gcd a b)
 unfolding lcm
 lcm-other a b =
     let g = gcd a b in
@@ -122,6 +127,20 @@ lcm-is a b = record {
 pub lcm-only : (a b l : ℕ) → IsLcm a b l → l ≡ lcm a b
 lcm-only a b l is =
     dvd-antisymm (is .least (lcm a b) (lcm-is a b .left) (lcm-is a b .right)) (lcm-is a b .least l (is .left) (is .right))
+
+pub lcm-multiple : (a b : ℕ) → a ∣ b → lcm a b ≡ b
+lcm-multiple a b h = sym (lcm-only a b b record { left = h; right = dvd-refl b; least = λ m p q. q })
+
+-- Of three numbers, in another order.
+pub lcm-swap : (a b c : ℕ) → lcm a (lcm b c) ≡ lcm b (lcm a c)
+lcm-swap a b c =
+    let all = lcm-is a (lcm b c) in
+    lcm-only b (lcm a c) (lcm a (lcm b c))
+    record {
+      left = dvd-trans b (lcm-is b c .left) (all .right);
+      right = lcm-is a c .least _ (all .left) (dvd-trans c (lcm-is b c .right) (all .right));
+      least = λ m p q. all .least m (dvd-trans a (lcm-is a c .left) q) (lcm-is b c .least m p (dvd-trans c (lcm-is a c .right) q));
+    }
 
 pub lcm-zero-left : (b : ℕ) → lcm 0 b ≡ 0
 lcm-zero-left b = eq-zero-of-zero-dvd (lcm-is 0 b .left)

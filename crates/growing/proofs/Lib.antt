@@ -1,0 +1,4 @@
+pub mod Levels
+pub mod Raises
+pub mod Loops
+pub mod Plans

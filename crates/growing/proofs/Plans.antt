@@ -1,0 +1,20 @@
+-- The plan for jobs whose hyperperiod is within its limit, and for others.
+use Prim.Native.Nat.{_≤_, _<_}
+use mathlib.Core.Path.{_≡_}
+use mathlib.Core.List.{List}
+use borrow.Author.Tests.{le-leb, lt-leb}
+use Rattle.gmf.specs.declared.Machine.{Machine}
+use Rattle.gmf.specs.declared.Job.{Job}
+use Rattle.gmf.specs.Jobs.{hyperperiod, hyperperiodLimit}
+use Rattle.gmf.specs.Growing.{planOf}
+use Rattle.workload.specs.declared.Verdict.the-variants.{TooLong}
+use Rattle.growing.specs.Plan.{without, stated, planned}
+
+module _ (M : Machine) (jobs : List Job) where
+  pub planned-within : hyperperiod jobs ≤ hyperperiodLimit → planned M jobs ≡ stated (hyperperiod jobs) (planOf M jobs)
+  unfolding planned
+  planned-within h = rw (le-leb (hyperperiod jobs) hyperperiodLimit h, planned)
+
+  pub planned-above : hyperperiodLimit < hyperperiod jobs → planned M jobs ≡ without TooLong
+  unfolding planned
+  planned-above h = rw (lt-leb (hyperperiod jobs) hyperperiodLimit h, planned)

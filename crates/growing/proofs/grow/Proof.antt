@@ -1,0 +1,490 @@
+-- `growing::grow` meets its contract.
+use Prim.Native.Nat.{ℕ, suc, _+_, _*_, _-_, _<_, _≤_, min}
+use native.Mathlib.Nat.{mul-le-mul, mul-le-mul-right, le-trans}
+use native.Mathlib.Numerals.{add-one}
+use native.Mathlib.Omega.{arith}
+use mathlib.Core.Path.{_≡_, refl, sym, ap, ap₂, subst, _∙_}
+use mathlib.Core.List.{List}
+use mathlib.Core.Bool.{true, false, true≢false}
+use mathlib.Core.Logic.{⊎-elim}
+use borrow.Author.Needs.{needs}
+use borrow.Author.Tests.{not-true, not-false}
+use lib.ListN.{length, getD, take, set, replicate}
+use lib.Seq.{length-take-le}
+use Rattle.gmf.specs.declared.Job.{Job}
+use Rattle.gmf.specs.Machine.{speed, top}
+use Rattle.gmf.specs.Jobs.{JobInRange, hyperperiod, hyperperiodLimit, work, works}
+use Rattle.gmf.specs.Capacity.{sum, largest, level}
+use Rattle.gmf.specs.Growing.{demand, planOf}
+use Rattle.gmf.proofs.Largest.{largest-some}
+use Rattle.workload.specs.Load.{totals}
+use Rattle.workload.specs.declared.Verdict.the-variants.{SomePlan}
+use Rattle.workload.proofs.Turns.{turn-every}
+use Rattle.growing.specs.Plan.{stated}
+use Rattle.growing.proofs.Raises.{Grows}
+use Rattle.growing.proofs.Loops.{Given, Outer, Inner, Ready, outer-begin, inner-begin, work-more, ready-more, ready-last, supply-bound, raises-bound, work-most, next-is, outer-next, step-none, grown-more, inner-next, inner-up, finished}
+use Rattle.growing.proofs.grow.Statement.{statement}
+use Rattle.growing.proofs.grow.Tie as tie
+
+abbrev Inv-raising : tie.InvT-raising
+Inv-raising machine jobs held all ticks topmost top-speed step steps levels₀ above₀ raises₀ found₀ supply₀ taken job i first demand need v₀ p₀ levels above raises found supply v p =
+    (found ≡ true) × Inner machine (take held jobs) levels above raises supply i v p
+
+abbrev μ-raising : tie.MeasureT-raising
+μ-raising machine jobs held all ticks topmost top-speed step steps levels₀ above₀ raises₀ found₀ supply₀ taken job i first demand need v₀ p₀ levels above raises found supply v p =
+    suc i * topmost - raises
+
+abbrev Inv-growing : tie.InvT-growing
+Inv-growing machine jobs held all ticks topmost top-speed step steps levels₀ above₀ raises₀ found₀ supply₀ taken₀ job₀ i₀ levels above raises found supply taken job i =
+    (i ≤ steps) × (found ≡ true) × Outer machine (take held jobs) levels above raises supply taken job i
+
+abbrev μ-growing : tie.MeasureT-growing
+μ-growing machine jobs held all ticks topmost top-speed step steps levels₀ above₀ raises₀ found₀ supply₀ taken₀ job₀ i₀ levels above raises found supply taken job i =
+    steps - i
+
+-- ---- The places, and the ways from one to another
+
+abbrev Begin : Type 0
+Begin = tie.Start Inv-raising μ-raising Inv-growing μ-growing
+
+abbrev Turn : Type 0
+Turn = tie.At-growing Inv-raising μ-raising Inv-growing μ-growing
+
+abbrev Join : Type 0
+Join = tie.Joined1 Inv-raising μ-raising Inv-growing μ-growing
+
+abbrev Raise : Type 0
+Raise = tie.At-raising Inv-raising μ-raising Inv-growing μ-growing
+
+abbrev begin : Turn → Begin
+begin c = c .before .before .before .before .before .before .before
+
+abbrev turn-of : Join → Turn
+turn-of c = c .before .before .before
+
+abbrev join-of : Raise → Join
+join-of c = c .before .before
+
+-- ---- What is known from the entry on
+
+abbrev held-jobs : Begin → List Job
+held-jobs c = take (c .args .held) (c .args .jobs)
+
+held-length : (c : Begin) → length (held-jobs c) ≡ c .args .held
+held-length c = let e : length (c .args .jobs) ≡ 64 = search needs in length-take-le (c .args .held) (c .args .jobs) (omega (arith, c .pre .0 .1))
+
+given : (c : Begin) → Given (c .args .machine) (held-jobs c)
+given c = record {
+  machine = c .pre .0 .0;
+  few = omega (arith, held-length c, c .pre .0 .1);
+  in-range = c .pre .0 .2;
+  rising = c .pre .0 .3;
+  limited = c .pre .1 .0;
+}
+
+ticks-are : (c : Begin) → c .args .all .hyperperiod ≡ hyperperiod (held-jobs c)
+unfolding totals
+ticks-are c = ap (λ t. t .hyperperiod) (c .pre .1 .1)
+
+work-is : (c : Begin) → c .args .all .work ≡ sum (works (held-jobs c))
+unfolding totals
+work-is c = ap (λ t. t .work) (c .pre .1 .1)
+
+steps-are : (c : Turn) → c .before .before .steps-of .result ≡ min (begin c .args .machine .processors) (length (held-jobs (begin c)))
+steps-are c = c .before .before .steps-of .ensures ∙ ap (min (begin c .args .machine .processors)) (sym (held-length (begin c)))
+
+top-is : (c : Begin) → c .args .machine .lowest + (c .args .machine .levels - 1) * c .args .machine .step ≡ top (c .args .machine)
+unfolding top speed
+top-is c = refl
+
+-- ---- A step before its raises
+
+-- No more steps than processors.
+inside : (c : tie.In-growing Inv-raising μ-raising Inv-growing μ-growing) → c .before .growing .i < begin (c .before) .args .machine .processors
+inside c = omega (arith, c .growing-test .taken, steps-are (c .before))
+
+ready : (c : Join) →
+    let t = turn-of c in
+    Ready (begin t .args .machine) (held-jobs (begin t)) (c .if1 .demand) (c .if1 .taken) (c .if1 .job) (t .growing .i)
+ready c =
+    let t = turn-of c in
+    let b = begin t in
+    let o = t .growing .inv .2 in
+    let within = inside (c .before .before) in
+    ⊎-elim
+    (λ w.
+    let more : suc (t .growing .i) < min (b .args .machine .processors) (length (held-jobs b)) = omega (arith, w .0 .taken, steps-are t) in
+    let e = w .2 .ensures ∙ ap₂ work (ticks-are b) (w .1 .ensures) in
+    let taken = work-more _ _ (given b) _ _ _ _ _ _ _ o within more (w .2 .result) e in
+    ready-more _ _ (given b) _ _ _ _ _ _ _ o within more _ _ _ (w .5 ∙ taken) (w .3 ∙ taken) (w .4 ∙ w .1 .ensures))
+    (λ w.
+    let last : suc (t .growing .i) ≡ min (b .args .machine .processors) (length (held-jobs b)) = omega (arith, w .0 .left, steps-are t, c .before .before .growing-test .taken) in
+    ready-last _ _ (given b) _ _ _ _ _ _ _ o within last _ _ _ (w .3 ∙ work-is b))
+    (c .if1 .came)
+
+-- ---- Before the loops
+
+sub-top : tie.Need-sub-top Inv-raising μ-raising Inv-growing μ-growing
+sub-top c = c .before .pre .0 .0 .levels .0
+
+cast-top-speed : tie.Need-cast-top-speed Inv-raising μ-raising Inv-growing μ-growing
+cast-top-speed c = search needs
+
+cast-top-speed-2 : tie.Need-cast-top-speed-2 Inv-raising μ-raising Inv-growing μ-growing
+cast-top-speed-2 c = omega (arith, c .before .before .pre .0 .0 .levels .1)
+
+cast-top-speed-3 : tie.Need-cast-top-speed-3 Inv-raising μ-raising Inv-growing μ-growing
+cast-top-speed-3 c = search needs
+
+top-most : (c : Begin) → c .args .machine .lowest + (c .args .machine .levels - 1) * c .args .machine .step ≤ 256
+top-most c = rw (top-is c) (c .pre .0 .0 .top-speed)
+
+ticks-most : (c : Begin) → c .args .all .hyperperiod ≤ hyperperiodLimit
+ticks-most c = rw (ticks-are c) (c .pre .1 .0)
+
+mul-top-speed : tie.Need-mul-top-speed Inv-raising μ-raising Inv-growing μ-growing
+mul-top-speed c = omega (arith, top-most (c .before .before .before))
+
+add-top-speed : tie.Need-add-top-speed Inv-raising μ-raising Inv-growing μ-growing
+add-top-speed c = omega (arith, top-most (c .before .before .before))
+
+cast-step : tie.Need-cast-step Inv-raising μ-raising Inv-growing μ-growing
+cast-step c = search needs
+
+cast-step-2 : tie.Need-cast-step-2 Inv-raising μ-raising Inv-growing μ-growing
+cast-step-2 c = search needs
+
+mul-step : tie.Need-mul-step Inv-raising μ-raising Inv-growing μ-growing
+mul-step c = let s = c .before .before .before .before in omega (arith, mul-le-mul (ticks-most s) (s .pre .0 .0 .step .1))
+
+steps-of-requires : tie.Need-steps-of-requires Inv-raising μ-raising Inv-growing μ-growing
+steps-of-requires c κs = search needs
+
+none-taken-requires : tie.Need-none-taken-requires Inv-raising μ-raising Inv-growing μ-growing
+none-taken-requires c κs = search needs
+
+growing-holds : tie.Need-growing-holds Inv-raising μ-raising Inv-growing μ-growing
+growing-holds c =
+    let b = c .before .before .before .before .before .before in (
+      omega arith,
+      refl,
+      subst (λ j. Outer (b .args .machine) (held-jobs b) (replicate 32 0) (replicate 32 0) 0 0 0 j 0) (sym (c .none-taken .ensures))
+          (outer-begin (b .args .machine) (held-jobs b) (given b)),
+    )
+
+-- ---- A step
+
+few : (c : tie.In-growing Inv-raising μ-raising Inv-growing μ-growing) → c .before .growing .i < 32
+few c = omega (arith, inside c, begin (c .before) .pre .0 .0 .processors .1)
+
+cast-first : tie.Need-cast-first Inv-raising μ-raising Inv-growing μ-growing
+cast-first c = omega (arith, few c)
+
+add-first : tie.Need-add-first Inv-raising μ-raising Inv-growing μ-growing
+add-first c = omega (arith, few c)
+
+cast-supply : tie.Need-cast-supply Inv-raising μ-raising Inv-growing μ-growing
+cast-supply c = search needs
+
+cast-supply-2 : tie.Need-cast-supply-2 Inv-raising μ-raising Inv-growing μ-growing
+cast-supply-2 c = search needs
+
+lowest-most : (c : Begin) → c .args .all .hyperperiod * c .args .machine .lowest ≤ hyperperiodLimit * 256
+lowest-most c = mul-le-mul (ticks-most c) (c .pre .0 .0 .lowest .1)
+
+mul-supply : tie.Need-mul-supply Inv-raising μ-raising Inv-growing μ-growing
+mul-supply c = omega (arith, lowest-most (begin (c .before .before)))
+
+add-supply : tie.Need-add-supply Inv-raising μ-raising Inv-growing μ-growing
+add-supply c =
+    let t = c .before .before in
+    omega (
+      arith,
+      lowest-most (begin t),
+      supply-bound _ _ (given (begin t)) _ _ _ _ _ (t .growing .inv .2 .grows) (omega (arith, inside (c .before))),
+    )
+
+add-if1 : tie.Need-add-if1 Inv-raising μ-raising Inv-growing μ-growing
+add-if1 c = omega (arith, few (c .before))
+
+next-job-requires : tie.Need-next-job-requires Inv-raising μ-raising Inv-growing μ-growing
+next-job-requires c κs = begin (c .before .before .before) .pre .0 .1
+
+work-of-requires : tie.Need-work-of-requires Inv-raising μ-raising Inv-growing μ-growing
+work-of-requires c κs =
+    let t = c .before .before .before .before in
+    let b = begin t in
+    let i = t .growing .i in
+    let more : suc i < min (b .args .machine .processors) (length (held-jobs b)) = omega (arith, c .before .if1 .taken, steps-are t) in
+    let e = next-is _ _ (given b) _ _ _ _ _ _ _ (t .growing .inv .2) (inside (c .before .before .before)) more in
+    subst JobInRange (sym (c .next-job .ensures ∙ e))
+    (turn-every (held-jobs b) (b .pre .0 .2) (b .pre .0 .3) JobInRange (b .pre .0 .2) i (omega arith))
+
+add-taken : tie.Need-add-taken Inv-raising μ-raising Inv-growing μ-growing
+add-taken c =
+    let t = c .before .before .before .before .before in
+    let b = begin t in
+    let i = t .growing .i in
+    let more : suc i < min (b .args .machine .processors) (length (held-jobs b)) = omega (arith, c .before .before .if1 .taken, steps-are t) in
+    let e = c .work-of .ensures ∙ ap₂ work (ticks-are b) (c .before .next-job .ensures) in
+    omega (
+      arith,
+      work-more _ _ (given b) _ _ _ _ _ _ _ (t .growing .inv .2) (inside (c .before .before .before .before)) more (c .work-of .result) e,
+      largest-some (suc i) (works (held-jobs b)),
+      work-most _ _ (given b),
+    )
+
+mul-need : tie.Need-mul-need Inv-raising μ-raising Inv-growing μ-growing
+mul-need c =
+    let b = begin (turn-of (c .before)) in
+    omega (arith, mul-le-mul (top-most b) (le-trans (ready (c .before) .most) (work-most _ _ (given b))))
+
+array-read-p : tie.Need-array-read-p Inv-raising μ-raising Inv-growing μ-growing
+array-read-p c = search needs
+
+raising-holds : tie.Need-raising-holds Inv-raising μ-raising Inv-growing μ-growing
+raising-holds c =
+    let t = turn-of (c .before) in
+    let b = begin t in
+    let g = t .growing in (
+      g .inv .1,
+      subst (λ (h : ℕ). Inner (b .args .machine) (held-jobs b) (g .levels) (g .above) (g .raises) (g .supply + h * b .args .machine .lowest) (g .i) 0 (level (g .above) 0))
+          (sym (ticks-are b))
+          (inner-begin _ _ (given b) _ _ _ _ _ _ _ (g .inv .2) (inside (c .before .before .before))),
+    )
+
+-- ---- A raise
+
+abbrev Raised : Type 0
+Raised = tie.Else2 Inv-raising μ-raising Inv-growing μ-growing
+
+abbrev start-of : Raise → Begin
+start-of c = begin (turn-of (join-of c))
+
+abbrev place : Raise → ℕ
+place c = turn-of (join-of c) .growing .i
+
+within : (c : Raise) → place c < start-of c .args .machine .processors
+within c = inside (join-of c .before .before)
+
+-- What the test of the step asks for.
+asked : (c : Raise) →
+    (start-of c .args .machine .lowest + (start-of c .args .machine .levels - 1) * start-of c .args .machine .step) * join-of c .if1 .demand
+    ≡ top (start-of c .args .machine) * demand (start-of c .args .machine) (hyperperiod (held-jobs (start-of c))) (works (held-jobs (start-of c))) (suc (place c))
+asked c = ap₂ _*_ (top-is (start-of c)) (ready (join-of c) .demanded)
+
+low : (c : Raised) → c .before .before .raising .v < start-of (c .before .before) .args .machine .levels - 1
+low c = omega (arith, c .if2 .left, c .before .before .raising .inv .1 .within)
+
+-- What the raise makes of levels, count and supply.
+grown : (c : Raised) →
+    let r = c .before .before in
+    let b = start-of r in
+    let v = r .raising in
+    Grows (b .args .machine) (hyperperiod (held-jobs b)) (suc (place r)) (set (v .levels) (v .p) (v .v + 1)) (set (v .above) (v .v) (v .p + 1)) (v .raises + 1)
+    (v .supply + b .args .all .hyperperiod * b .args .machine .step)
+grown c =
+    let r = c .before .before in
+    let b = start-of r in
+    let v = r .raising in
+    subst (λ (h : ℕ). Grows (b .args .machine) (hyperperiod (held-jobs b)) (suc (place r)) (set (v .levels) (v .p) (v .v + 1)) (set (v .above) (v .v) (v .p + 1)) (v .raises + 1)
+    (v .supply + h * b .args .machine .step)) (sym (ticks-are b))
+    (grown-more _ _ (given b) _ _ _ _ _ _ _ _ (v .inv .1) (within r) (asked r) (c .before .raising-test .taken) (low c))
+
+small : (c : Raised) → c .before .before .raising .v + 1 < 32
+small c = omega (arith, low c, start-of (c .before .before) .pre .0 .0 .levels .1)
+
+placed : (c : Raised) → c .before .before .raising .p < suc (place (c .before .before))
+placed c = c .before .before .raising .inv .1 .slowest .inside
+
+placed-few : (c : Raised) → c .before .before .raising .p < 32
+placed-few c = omega (arith, placed c, within (c .before .before), start-of (c .before .before) .pre .0 .0 .processors .1)
+
+count : (c : Raised) → c .before .before .raising .raises + 1 ≤ suc (place (c .before .before)) * (start-of (c .before .before) .args .machine .levels - 1)
+count c = raises-bound _ _ (given (start-of (c .before .before))) _ _ _ _ _ (grown c) (within (c .before .before))
+
+add-levels : tie.Need-add-levels Inv-raising μ-raising Inv-growing μ-growing
+add-levels c = omega (arith, small c)
+
+cast-levels : tie.Need-cast-levels Inv-raising μ-raising Inv-growing μ-growing
+cast-levels c = omega (arith, placed-few c)
+
+array-write-levels : tie.Need-array-write-levels Inv-raising μ-raising Inv-growing μ-growing
+array-write-levels c = placed-few c
+
+add-raises : tie.Need-add-raises Inv-raising μ-raising Inv-growing μ-growing
+add-raises c =
+    let r = c .before .before in
+    let b = start-of r in
+    let i≤ : suc (place r) ≤ 32 = omega (arith, within r, b .pre .0 .0 .processors .1) in
+    let t≤ : b .args .machine .levels - 1 ≤ 32 = omega (arith, b .pre .0 .0 .levels .1) in
+    omega (arith, count c, mul-le-mul i≤ t≤)
+
+add-supply-2 : tie.Need-add-supply-2 Inv-raising μ-raising Inv-growing μ-growing
+add-supply-2 c =
+    omega (arith, supply-bound _ _ (given (start-of (c .before .before))) _ _ _ _ _ (grown c) (within (c .before .before)))
+
+add-p : tie.Need-add-p Inv-raising μ-raising Inv-growing μ-growing
+add-p c = omega (arith, placed-few c)
+
+cast-above : tie.Need-cast-above Inv-raising μ-raising Inv-growing μ-growing
+cast-above c = omega (arith, small c)
+
+array-write-above : tie.Need-array-write-above Inv-raising μ-raising Inv-growing μ-growing
+array-write-above c = omega (arith, small c)
+
+add-v : tie.Need-add-v Inv-raising μ-raising Inv-growing μ-growing
+add-v c = omega (arith, small (c .before))
+
+cast-p : tie.Need-cast-p Inv-raising μ-raising Inv-growing μ-growing
+cast-p c = omega (arith, small (c .before))
+
+array-read-p-2 : tie.Need-array-read-p-2 Inv-raising μ-raising Inv-growing μ-growing
+array-read-p-2 c = small (c .before)
+
+raising-less : tie.Need-raising-less Inv-raising μ-raising Inv-growing μ-growing
+raising-less c = omega (arith, count (c .before))
+
+raising-again : tie.Need-raising-again Inv-raising μ-raising Inv-growing μ-growing
+raising-again c =
+    let e = c .before in
+    let r = e .before .before in
+    let b = start-of r in
+    let v = r .raising in (
+      v .inv .0,
+      subst (λ (h : ℕ). Inner (b .args .machine) (held-jobs b) (set (v .levels) (v .p) (v .v + 1)) (set (v .above) (v .v) (v .p + 1)) (v .raises + 1)
+          (v .supply + h * b .args .machine .step) (place r) (v .v + 1) (level (set (v .above) (v .v) (v .p + 1)) (v .v + 1)))
+          (sym (ticks-are b))
+          (inner-up _ _ (given b) _ _ _ _ _ _ _ _ (v .inv .1) (within r) (asked r) (e .before .raising-test .taken) (low e) (omega (arith, c .if3 .taken))),
+    )
+
+raising-less-2 : tie.Need-raising-less-2 Inv-raising μ-raising Inv-growing μ-growing
+raising-less-2 c = omega (arith, count (c .before))
+
+raising-again-2 : tie.Need-raising-again-2 Inv-raising μ-raising Inv-growing μ-growing
+raising-again-2 c =
+    let e = c .before in
+    let r = e .before .before in
+    let b = start-of r in
+    let v = r .raising in (
+      v .inv .0,
+      subst (λ (h : ℕ). Inner (b .args .machine) (held-jobs b) (set (v .levels) (v .p) (v .v + 1)) (set (v .above) (v .v) (v .p + 1)) (v .raises + 1)
+          (v .supply + h * b .args .machine .step) (place r) (v .v) (v .p + 1))
+          (sym (ticks-are b))
+          (inner-next _ _ (given b) _ _ _ _ _ _ _ _ (v .inv .1) (within r) (asked r) (e .before .raising-test .taken) (low e) (omega (arith, c .if3 .left, placed e))),
+    )
+
+add-i : tie.Need-add-i Inv-raising μ-raising Inv-growing μ-growing
+add-i c = omega (arith, few (join-of (c .before) .before .before))
+
+growing-less : tie.Need-growing-less Inv-raising μ-raising Inv-growing μ-growing
+growing-less c = omega (arith, join-of (c .before) .before .before .growing-test .taken)
+
+growing-again : tie.Need-growing-again Inv-raising μ-raising Inv-growing μ-growing
+growing-again c =
+    let r = c .before in
+    let b = start-of r in
+    let v = r .raising in (
+      omega (arith, join-of r .before .before .growing-test .taken),
+      v .inv .0,
+      subst (Outer (b .args .machine) (held-jobs b) (v .levels) (v .above) (v .raises) (v .supply) (join-of r .if1 .taken) (join-of r .if1 .job)) (sym (add-one (place r)))
+          (outer-next _ _ (given b) _ _ _ _ _ _ _ _ (v .inv .1) (within r) (asked r) _ _ _ (ready (join-of r)) (c .raising-test .left)),
+    )
+
+-- ---- After the loops
+
+no-plan-requires : tie.Need-no-plan-requires Inv-raising μ-raising Inv-growing μ-growing
+no-plan-requires c κs = search needs
+
+returns : tie.Need-returns Inv-raising μ-raising Inv-growing μ-growing
+unfolding stated
+returns c =
+    let l = c .before .before in
+    let t = l .before in
+    let b = begin t in
+    ⊎-elim
+    (λ w. absurd (true≢false (sym (w .3 ∙ t .growing .inv .1) ∙ not-true (l .growing-test .found) (c .before .if4 .taken))))
+    (λ w.
+    let r : Raise = record {
+      before = record {
+        before = record {
+          before = record { before = record { before = t; growing-test = w .0 }; struct-known5 = w .1 };
+          if1 = w .2;
+        };
+        row-known = w .3;
+      };
+      raising = w .4;
+    } in
+    c .no-plan .ensures ∙ ap (stated (hyperperiod (held-jobs b)))
+    (sym (step-none _ _ (given b) _ _ _ _ _ _ _ _ (r .raising .inv .1) (within r) (asked r) (w .5 .taken) (w .6 .taken))))
+    (l .growing-test .came)
+
+returns-2 : tie.Need-returns-2 Inv-raising μ-raising Inv-growing μ-growing
+returns-2 c =
+    let l = c .before in
+    let t = l .before in
+    let b = begin t in
+    let g = t .growing in
+    ⊎-elim
+    (λ w.
+    let last : g .i ≡ min (b .args .machine .processors) (length (held-jobs b)) = omega (arith, w .0 .left, g .inv .0, steps-are t) in
+    ap₂ (λ (q : List ℕ) (n : ℕ). record { verdict = SomePlan; hyperperiod = b .args .all .hyperperiod; raises = n; levels = q }) (w .1) (w .2)
+    ∙ finished _ _ (given b) _ _ _ _ _ _ (subst (Outer (b .args .machine) (held-jobs b) (g .levels) (g .above) (g .raises) (g .supply) (g .taken) (g .job)) last (g .inv .2))
+    _ (ticks-are b))
+    (λ w. absurd (true≢false (sym (not-false (l .growing-test .found) (c .if4 .left)) ∙ w .9)))
+    (l .growing-test .came)
+
+pub grow-spec : {M : Type 1} → statement M
+grow-spec =
+    tie.close
+    (tie.spec
+    Inv-raising
+    μ-raising
+    Inv-growing
+    μ-growing
+    sub-top
+    cast-top-speed
+    cast-top-speed-2
+    cast-top-speed-3
+    mul-top-speed
+    add-top-speed
+    cast-step
+    cast-step-2
+    mul-step
+    steps-of-requires
+    none-taken-requires
+    growing-holds
+    cast-first
+    add-first
+    cast-supply
+    cast-supply-2
+    mul-supply
+    add-supply
+    add-if1
+    next-job-requires
+    work-of-requires
+    add-taken
+    mul-need
+    array-read-p
+    raising-holds
+    add-levels
+    cast-levels
+    array-write-levels
+    add-raises
+    add-supply-2
+    add-p
+    cast-above
+    array-write-above
+    add-v
+    cast-p
+    array-read-p-2
+    raising-less
+    raising-again
+    raising-less-2
+    raising-again-2
+    add-i
+    growing-less
+    growing-again
+    no-plan-requires
+    returns
+    returns-2)

@@ -1,0 +1,28 @@
+-- The plan of a machine for its jobs, as the struct that is returned.
+use Prim.Native.Nat.{ℕ, _-_}
+use mathlib.Core.Bool.{true, false}
+use mathlib.Core.List.{List, _++_}
+use lib.Dec.{leb}
+use lib.ListN.{length, replicate}
+use Rattle.gmf.specs.declared.Machine.{Machine}
+use Rattle.gmf.specs.declared.Job.{Job}
+use Rattle.gmf.specs.Jobs.{hyperperiod, hyperperiodLimit}
+use Rattle.gmf.specs.Growing.{Growth, Grown, NoPlan, planOf}
+use Rattle.workload.specs.declared.Verdict.{Verdict}
+use Rattle.workload.specs.declared.Verdict.the-variants as verdict
+use Rattle.growing.specs.declared.Plan.{Plan}
+
+-- No plan, for one reason or the other: zeros.
+unfoldable pub without : Verdict → Plan
+without v = record { verdict = v; hyperperiod = 0; raises = 0; levels = replicate 32 0 }
+
+-- What growing finds in H ticks: m levels, with zeros after them to 32, and the count of raises.
+unfoldable pub stated : ℕ → Growth → Plan
+stated H (Grown plan raises) =
+    record { verdict = verdict.SomePlan; hyperperiod = H; raises = raises; levels = plan ++ replicate (32 - length plan) 0 }
+stated H NoPlan = without verdict.NoPlan
+
+-- The plan that a machine gives its jobs, where their hyperperiod is within its limit.
+unfoldable pub planned : Machine → List Job → Plan
+planned M jobs =
+    elim (leb (hyperperiod jobs) hyperperiodLimit) [ true ↦ stated (hyperperiod jobs) (planOf M jobs) | false ↦ without verdict.TooLong ]

@@ -1,0 +1,119 @@
+// The plan of a machine for its jobs, grown (paper 004, section III).
+ghost use mathlib.Core.Path.{_≡_};
+ghost use Prim.Native.Nat.{_≤_, min};
+ghost use lib.ListN.{take};
+ghost use Rattle.gmf.specs.Machine.{InRange};
+ghost use Rattle.gmf.specs.Jobs.{JobInRange, ByRisingId, Every, hyperperiod, hyperperiodLimit, work};
+ghost use Rattle.gmf.specs.Growing.{planOf};
+ghost use Rattle.workload.specs.Load.{totals};
+ghost use Rattle.growing.specs.Plan.{stated, planned, without};
+
+use gmf::Job;
+use gmf::Machine;
+use workload::load_of;
+use workload::next_job;
+use workload::none_taken;
+use workload::Load;
+use workload::Totals;
+use workload::Verdict;
+
+// A level for each processor, and zeros after the last; the count of raises; the hyperperiod. All zeros where there is no plan.
+pub struct Plan {
+    pub verdict: Verdict,
+    pub hyperperiod: u32,
+    pub raises: u16,
+    pub levels: [u8; 32],
+}
+
+// No plan, and why.
+fn no_plan(verdict: Verdict) -> Plan
+    ensures { λ r. ⌜ r ≡ without verdict ⌝ }
+{
+    Plan { verdict, hyperperiod: 0, raises: 0, levels: [0u8; 32] }
+}
+
+// How many steps may raise: with fewer jobs than processors, those after the last job raise nothing.
+fn steps_of(processors: u8, held: usize) -> usize
+    ensures { λ r. ⌜ r ≡ min processors held ⌝ }
+{
+    let m = processors as usize;
+    if m < held {
+        return m;
+    }
+    held
+}
+
+// The work of a job in a hyperperiod.
+fn work_of(job: Job, hyperperiod: u32) -> u64
+    requires { ⌜ JobInRange job ⌝ }
+    ensures { λ r. ⌜ r ≡ work hyperperiod job ⌝ }
+{
+    job.cost as u64 * (hyperperiod / job.window() as u32) as u64
+}
+
+// Grows the plan. Both sides of a test are multiplied by H × Q, as in the definition.
+fn grow(machine: Machine, jobs: [Job; 64], held: usize, all: Totals) -> Plan
+    requires { ⌜ InRange machine × (held ≤ 64) × Every JobInRange (take held jobs) × ByRisingId (take held jobs) ⌝ }
+    requires { ⌜ (hyperperiod (take held jobs) ≤ hyperperiodLimit) × (all ≡ totals (take held jobs)) ⌝ }
+    ensures { λ r. ⌜ r ≡ stated (hyperperiod (take held jobs)) (planOf machine (take held jobs)) ⌝ }
+{
+    let hyperperiod = all.hyperperiod;
+    let top = machine.levels - 1;
+    let top_speed = machine.lowest as u64 + top as u64 * machine.step as u64;
+    // what one level more gets done in the hyperperiod
+    let step = hyperperiod as u64 * machine.step as u64;
+    let steps = steps_of(machine.processors, held);
+    let mut levels = [0u8; 32];
+    // how many processors are above each level: the first of those at level v is the one at the place above[v]
+    let mut above = [0u8; 32];
+    let mut raises: u16 = 0;
+    let mut found = true;
+    let mut supply: u64 = 0;
+    let mut taken: u64 = 0;
+    let mut job = none_taken();
+    'growing: for i in 0..steps {
+        let first = i as u8 + 1;
+        supply += hyperperiod as u64 * machine.lowest as u64;
+        let mut demand = all.work;
+        if i + 1 < steps {
+            job = next_job(jobs, held, job);
+            taken += work_of(job, hyperperiod);
+            demand = taken;
+        }
+        let need = top_speed * demand;
+        // the slowest level of the first processors, and the lowest-numbered of those at it
+        let mut v: u8 = 0;
+        let mut p = above[0];
+        'raising: while supply < need {
+            if v == top {
+                found = false;
+                break 'growing;
+            }
+            levels[p as usize] = v + 1;
+            raises += 1;
+            supply += step;
+            p += 1;
+            above[v as usize] = p;
+            if p == first {
+                v += 1;
+                p = above[v as usize];
+            }
+        }
+    }
+    if !found {
+        return no_plan(Verdict::NoPlan);
+    }
+    Plan { verdict: Verdict::SomePlan, hyperperiod, raises, levels }
+}
+
+// The plan that the machine gives the first `held` jobs.
+pub fn plan_of(machine: Machine, jobs: [Job; 64], held: usize) -> Plan
+    requires { ⌜ InRange machine × (held ≤ 64) × Every JobInRange (take held jobs) × ByRisingId (take held jobs) ⌝ }
+    ensures { λ r. ⌜ r ≡ planned machine (take held jobs) ⌝ }
+{
+    let load = load_of(jobs, held);
+    match load {
+        Load::Within(all) => grow(machine, jobs, held, all),
+        Load::TooLong => no_plan(Verdict::TooLong),
+    }
+}
