@@ -7,7 +7,7 @@ use mathlib.Core.List.{List, [], _∷_}
 use Rattle.number.specs.Divisors.{lcm, gcd, euclid}
 use Rattle.gmf.specs.Machine.{speed, top}
 use Rattle.gmf.specs.Jobs.{window, hyperperiod, work, works}
-use Rattle.gmf.specs.Power.{power, rise, IsTable}
+use Rattle.gmf.specs.Power.{power, rise, powerLimit, IsTable}
 use Rattle.gmf.specs.Trials.{machine, quarters, jobsFrom, RangeEdges, TableEdges}
 use Rattle.gmf.specs.Claims.{FitsEdges}
 
@@ -37,12 +37,12 @@ below-three P a b c (suc (suc zero)) h = c
 below-three P a b c (suc (suc (suc j))) h = absurd (not-suc-le-zero (le-of-suc-le-suc (le-of-suc-le-suc (le-of-suc-le-suc h))))
 
 -- A table of three numbers is one when it is convex and its last number is in range.
-module _ (x y z : ℕ) (up : x ≤ y) (up′ : y ≤ z) (bend : y + y ≤ x + z) (range : z ≤ 16777216) where
+module _ (x y z : ℕ) (up : x ≤ y) (up′ : y ≤ z) (bend : y + y ≤ x + z) (range : z ≤ powerLimit) where
   abbrev table : List ℕ
   table = x ∷ y ∷ z ∷ []
 
-  in-range : (j : ℕ) → j < 3 → power table j ≤ 16777216
-  in-range = below-three (λ j. power table j ≤ 16777216) (omega arith) (omega arith) (omega arith)
+  in-range : (j : ℕ) → j < 3 → power table j ≤ powerLimit
+  in-range = below-three (λ j. power table j ≤ powerLimit) (omega arith) (omega arith) (omega arith)
 
   never-falls : (j : ℕ) → j < 3 → suc j < 3 → power table j ≤ power table (suc j)
   never-falls = below-three (λ j. suc j < 3 → power table j ≤ power table (suc j)) (λ _. up) (λ _. up′) (λ h. absurd (omega arith))

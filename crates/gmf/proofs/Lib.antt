@@ -11,6 +11,7 @@ pub mod Hyperperiod
 pub mod Retire
 pub mod Feasible
 pub mod Tables
+pub mod LentTable
 pub mod AcceptanceTrials
 pub mod Edges
 pub mod Results

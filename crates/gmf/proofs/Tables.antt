@@ -1,4 +1,4 @@
--- The cubes, and the default table of a machine as the code fills it.
+-- The cubes, the default table of a machine as the code fills it, and zeros after a table.
 use Prim.Native.Nat.{ℕ, zero, suc, _+_, _-_, _*_, _≤_, _<_, zero-le}
 use native.Mathlib.Nat.{not-suc-le-zero, le-of-suc-le-suc, mul-le-mul, mul-le-mul-right}
 use native.Mathlib.Numerals.{add-one}
@@ -9,8 +9,9 @@ use lib.ListN.{length, getD, set, replicate}
 use lib.Seq.{set-at, append-snoc}
 use Rattle.gmf.specs.declared.Machine.{Machine}
 use Rattle.gmf.specs.Machine.{speed, top}
-use Rattle.gmf.specs.Power.{power, rise, Convex, StrictlyConvex, cube, tabulate, cubes, defaultTable}
+use Rattle.gmf.specs.Power.{power, rise, Convex, StrictlyConvex, powerLimit, total, cube, tabulate, cubes, defaultTable}
 use Rattle.gmf.specs.Claims.{Cubes, SpeedTable, DefaultTable}
+use Rattle.gmf.proofs.Sums.{level-replicate}
 
 pub tabulate-length : (f : ℕ → ℕ) (n : ℕ) → length (tabulate f n) ≡ n
 unfolding tabulate
@@ -83,7 +84,7 @@ module _ (M : Machine) (fast : top M ≤ 256) where
   unfolding speed top
   slow j h = let le : j ≤ M .levels - 1 = omega arith in omega (arith, fast, mul-le-mul-right (M .step) le)
 
-  most : (s : ℕ) → s ≤ 256 → cube s ≤ 16777216
+  most : (s : ℕ) → s ≤ 256 → cube s ≤ powerLimit
   unfolding cube
   most s h = mul-le-mul (mul-le-mul h h) h
 
@@ -147,3 +148,15 @@ pub filled-end : (M : Machine) {speed : ℕ} {table : List ℕ} → Filled cubes
     → table ≡ defaultTable M ++ replicate (32 - M .levels) 0
 unfolding defaultTable speed
 filled-end M f = f .holding
+
+-- ---- Zeros after a table
+
+pub power-padded : (table : List ℕ) (n j : ℕ) → power (table ++ replicate n 0) j ≡ power table j
+power-padded [] n j = omega (arith, level-replicate n 0 j)
+power-padded (x ∷ xs) n zero = refl
+power-padded (x ∷ xs) n (suc j) = power-padded xs n j
+
+pub total-padded : (table : List ℕ) (n : ℕ) (plan : List ℕ) → total (table ++ replicate n 0) plan ≡ total table plan
+unfolding total
+total-padded table n [] = refl
+total-padded table n (j ∷ js) = omega (arith, power-padded table n j, total-padded table n js)

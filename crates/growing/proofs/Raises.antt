@@ -30,7 +30,7 @@ use Rattle.growing.proofs.Levels.{
   plan-level,
   plan-falls,
   plan-within,
-  raise-is
+  raise-is,
 }
 
 -- After `raises` raises among the first i processors, which get `supply` done in H ticks.

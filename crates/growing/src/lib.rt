@@ -7,15 +7,14 @@ ghost use Rattle.gmf.specs.Jobs.{JobInRange, ByRisingId, Every, hyperperiod, hy
 ghost use Rattle.gmf.specs.Growing.{planOf};
 ghost use Rattle.workload.specs.Load.{totals};
 ghost use Rattle.growing.specs.Plan.{stated, planned, without};
-
 use gmf::Job;
 use gmf::Machine;
-use workload::load_of;
-use workload::next_job;
-use workload::none_taken;
 use workload::Load;
 use workload::Totals;
 use workload::Verdict;
+use workload::load_of;
+use workload::next_job;
+use workload::none_taken;
 
 // A level for each processor, and zeros after the last; the count of raises; the hyperperiod. All zeros where there is no plan.
 pub struct Plan {
@@ -29,7 +28,12 @@ pub struct Plan {
 fn no_plan(verdict: Verdict) -> Plan
     ensures { λ r. ⌜ r ≡ without verdict ⌝ }
 {
-    Plan { verdict, hyperperiod: 0, raises: 0, levels: [0u8; 32] }
+    Plan {
+        verdict,
+        hyperperiod: 0,
+        raises: 0,
+        levels: [0u8; 32],
+    }
 }
 
 // How many steps may raise: with fewer jobs than processors, those after the last job raise nothing.
@@ -103,7 +107,12 @@ fn grow(machine: Machine, jobs: [Job; 64], held: usize, all: Totals) -> Plan
     if !found {
         return no_plan(Verdict::NoPlan);
     }
-    Plan { verdict: Verdict::SomePlan, hyperperiod, raises, levels }
+    Plan {
+        verdict: Verdict::SomePlan,
+        hyperperiod,
+        raises,
+        levels,
+    }
 }
 
 // The plan that the machine gives the first `held` jobs.

@@ -63,8 +63,7 @@ with-requires : tie.Need-with-requires Inv-loop μ-loop
 with-requires c κs =
     let i = c .before in
     let o = i .before in
-    let v = o .loop .inv in
-    (
+    let v = o .loop .inv in (
       subst (Every JobInRange) (more i) (in-range o (o .loop .j - 1)) .0,
       totals-range (o .loop .totals) (rest o (o .loop .j)) (v .1) (in-range o (o .loop .j))
           (omega (arith, suffix-length none (o .before .args .held) (o .before .args .t1) (long (o .before)) (o .loop .j)))
