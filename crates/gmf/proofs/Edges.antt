@@ -8,7 +8,7 @@ use Rattle.number.specs.Divisors.{lcm, gcd, euclid}
 use Rattle.gmf.specs.Machine.{speed, top}
 use Rattle.gmf.specs.Jobs.{window, hyperperiod, work, works}
 use Rattle.gmf.specs.Power.{power, rise, powerLimit, IsTable}
-use Rattle.gmf.specs.Trials.{machine, quarters, jobsFrom, RangeEdges, TableEdges}
+use Rattle.gmf.specs.Trials.{machine, quarters, jobsFrom, RangeEdges, JobEdges, TableEdges}
 use Rattle.gmf.specs.Claims.{FitsEdges}
 
 pub range-edges : RangeEdges
@@ -27,6 +27,22 @@ range-edges = record {
   no-step = omega arith;
   step-256 = omega arith;
   top-257 = omega arith;
+}
+
+pub job-edges : JobEdges
+unfolding jobsFrom
+job-edges = record {
+  least = omega arith;
+  most = omega arith;
+  no-id = omega arith;
+  id-65536 = omega arith;
+  no-cost = omega arith;
+  cost-65536 = omega arith;
+  no-period = omega arith;
+  period-65536 = omega arith;
+  rising = omega arith;
+  twice = λ h. omega arith;
+  falling = λ h. omega arith;
 }
 
 -- What holds at 0, 1 and 2 holds below 3.

@@ -9,13 +9,17 @@ use lib.ListN.{length}
 use Rattle.gmf.specs.declared.Machine.{Machine}
 use Rattle.gmf.specs.declared.Job.{Job}
 use Rattle.gmf.specs.Machine.{InRange}
-use Rattle.gmf.specs.Jobs.{hyperperiod, works}
+use Rattle.gmf.specs.Jobs.{JobInRange, ByRisingId, hyperperiod, works}
 use Rattle.gmf.specs.Growing.{Growth, Grown, NoPlan, holds, planOf}
 use Rattle.gmf.specs.Power.{IsTable, total, defaultTable}
 
 -- A machine from m, L, b and d, in the order of 01's frame 01.
 unfoldable pub machine : ℕ → ℕ → ℕ → ℕ → Machine
 machine m L b d = record { processors = m; levels = L; lowest = b; step = d }
+
+-- A job from its id, C and T, in the order of 01's frame 03.
+abbrev pub job : ℕ → ℕ → ℕ → Job
+job id cost period = record { id = id; cost = cost; period = period }
 
 -- "… quarters: b = 1, d = 1, L = 4 …".
 unfoldable pub quarters : ℕ → Machine
@@ -24,7 +28,7 @@ quarters m = machine m 4 1 1
 -- Jobs with the ids from `id` on, each given as C over T.
 unfoldable pub jobsFrom : ℕ → List (ℕ × ℕ) → List Job
 jobsFrom id [] = []
-jobsFrom id ((cost, period) ∷ shares) = record { id = id; cost = cost; period = period } ∷ jobsFrom (suc id) shares
+jobsFrom id ((cost, period) ∷ shares) = job id cost period ∷ jobsFrom (suc id) shares
 
 -- H, levels, raises and total power under the default table; or the number of a refusal.
 pub data Outcome : Type 0 where
@@ -103,6 +107,20 @@ pub record RangeEdges : Type 0 where
   pub no-step : InRange (machine 1 1 1 0) → ⊥
   pub step-256 : InRange (machine 1 1 1 256) → ⊥
   pub top-257 : InRange (machine 1 2 2 255) → ⊥
+
+-- The same for jobs; and ids that rise, and that don't.
+pub record JobEdges : Type 0 where
+  pub least : JobInRange (job 1 1 1)
+  pub most : JobInRange (job 65535 65535 65535)
+  pub no-id : JobInRange (job 0 1 1) → ⊥
+  pub id-65536 : JobInRange (job 65536 1 1) → ⊥
+  pub no-cost : JobInRange (job 1 0 1) → ⊥
+  pub cost-65536 : JobInRange (job 1 65536 1) → ⊥
+  pub no-period : JobInRange (job 1 1 0) → ⊥
+  pub period-65536 : JobInRange (job 1 1 65536) → ⊥
+  pub rising : ByRisingId (jobsFrom 1 ((1, 2) ∷ (1, 2) ∷ (1, 2) ∷ []))
+  pub twice : ByRisingId (job 1 1 2 ∷ job 1 1 2 ∷ []) → ⊥
+  pub falling : ByRisingId (job 1 1 2 ∷ job 3 1 2 ∷ job 2 1 2 ∷ []) → ⊥
 
 -- "Tables for three levels: 18 48 100 and 5 5 5 accepted; 0 5 9 refused 3." And each rule of a table by itself.
 pub record TableEdges : Type 0 where

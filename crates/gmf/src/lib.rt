@@ -6,7 +6,7 @@ ghost use mathlib.Core.Bool.{true};
 ghost use mathlib.Core.List.{_++_};
 ghost use Prim.Native.Nat.{ℕ, _-_, _≤_, _<_};
 ghost use lib.ListN.{take, replicate};
-ghost use Rattle.gmf.specs.Machine.{InRange};
+ghost use Rattle.gmf.specs.Machine.{InRange, top};
 ghost use Rattle.gmf.specs.Jobs.{window};
 ghost use Rattle.gmf.specs.Capacity.{level};
 ghost use Rattle.gmf.specs.Power.{power, powerLimit, IsTable, total, defaultTable};
@@ -43,6 +43,14 @@ impl Job {
 }
 
 impl Machine {
+    // The speed of the highest level.
+    pub fn top_speed(self) -> u16
+        requires { ⌜ InRange self ⌝ }
+        ensures { λ r. ⌜ r ≡ top self ⌝ }
+    {
+        self.lowest + (self.levels - 1) as u16 * self.step as u16
+    }
+
     // The cube of each level's speed, and zeros from `levels` on.
     pub fn default_table(self) -> [u32; 32]
         requires { ⌜ InRange self ⌝ }

@@ -2,3 +2,4 @@ pub mod Levels
 pub mod Raises
 pub mod Loops
 pub mod Plans
+pub mod Results

@@ -63,23 +63,23 @@ fn grow(machine: Machine, jobs: [Job; 64], held: usize, all: Totals) -> Plan
 {
     let hyperperiod = all.hyperperiod;
     let top = machine.levels - 1;
-    let top_speed = machine.lowest as u64 + top as u64 * machine.step as u64;
+    let top_speed = machine.top_speed() as u64;
     // what one level more gets done in the hyperperiod
     let step = hyperperiod as u64 * machine.step as u64;
     let steps = steps_of(machine.processors, held);
     let mut levels = [0u8; 32];
     // how many processors are above each level: the first of those at level v is the one at the place above[v]
-    let mut above = [0u8; 32];
+    let mut above = [0usize; 32];
     let mut raises: u16 = 0;
     let mut found = true;
     let mut supply: u64 = 0;
     let mut taken: u64 = 0;
     let mut job = none_taken();
     'growing: for i in 0..steps {
-        let first = i as u8 + 1;
+        let first = i + 1;
         supply += hyperperiod as u64 * machine.lowest as u64;
         let mut demand = all.work;
-        if i + 1 < steps {
+        if first < steps {
             job = next_job(jobs, held, job);
             taken += work_of(job, hyperperiod);
             demand = taken;
@@ -93,7 +93,7 @@ fn grow(machine: Machine, jobs: [Job; 64], held: usize, all: Totals) -> Plan
                 found = false;
                 break 'growing;
             }
-            levels[p as usize] = v + 1;
+            levels[p] = v + 1;
             raises += 1;
             supply += step;
             p += 1;

@@ -1,21 +1,25 @@
--- The order of three jobs, computed: the largest share first, though another cost is larger; then the lower id of two equal shares.
-use mathlib.Core.Path.{_≡_, refl}
-use mathlib.Core.List.{[], _∷_, map}
-use Rattle.gmf.specs.declared.Job.{Job}
-use Rattle.gmf.specs.Jobs.{window}
+-- Loads and an order of jobs, computed from the definitions.
+use mathlib.Core.Path.{refl}
+use Rattle.number.specs.Divisors.{euclid, gcd, lcm}
+use Rattle.gmf.specs.Jobs.{window, hyperperiod, work, works}
+use Rattle.gmf.specs.Trials.{jobsFrom}
+use Rattle.workload.specs.Load.{limited, costsFit, totals, loadOf}
 use Rattle.workload.specs.Turns.{comesBefore, noneTaken, idle, nextAfter, turn}
+use Rattle.workload.specs.Claims.{LoadTrials, TurnTrial}
 
-abbrev two-in-eight : Job
-two-in-eight = record { id = 1; cost = 2; period = 8 }
+pub load-trials : LoadTrials
+unfolding euclid gcd lcm window hyperperiod work works jobsFrom limited costsFit totals loadOf
+load-trials = record {
+  mixed = refl;
+  long = refl;
+  too-long = refl;
+  longest = refl;
+  just-too-long = refl;
+  none = refl;
+  full = refl;
+  unfit = refl;
+}
 
-abbrev one-in-four : Job
-one-in-four = record { id = 2; cost = 1; period = 4 }
-
-abbrev one-in-three : Job
-one-in-three = record { id = 3; cost = 1; period = 3 }
-
--- After the third turn none is left.
-pub in-turn : map (turn (two-in-eight ∷ one-in-four ∷ one-in-three ∷ [])) (1 ∷ 2 ∷ 3 ∷ 4 ∷ [])
-    ≡ one-in-three ∷ two-in-eight ∷ one-in-four ∷ idle ∷ []
+pub turn-trial : TurnTrial
 unfolding window comesBefore noneTaken idle nextAfter turn
-in-turn = refl
+turn-trial = refl

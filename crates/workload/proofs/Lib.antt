@@ -5,3 +5,4 @@ pub mod Verdicts
 pub mod Order
 pub mod Sorted
 pub mod Turns
+pub mod Results

@@ -12,7 +12,7 @@ use borrow.Author.Tests.{not-true, not-false}
 use lib.ListN.{length, getD, take, set, replicate}
 use lib.Seq.{length-take-le}
 use Rattle.gmf.specs.declared.Job.{Job}
-use Rattle.gmf.specs.Machine.{speed, top}
+use Rattle.gmf.specs.Machine.{top}
 use Rattle.gmf.specs.Jobs.{JobInRange, hyperperiod, hyperperiodLimit, work, works}
 use Rattle.gmf.specs.Capacity.{sum, largest, level}
 use Rattle.gmf.specs.Growing.{demand, planOf}
@@ -57,7 +57,7 @@ abbrev Raise : Type 0
 Raise = tie.At-raising Inv-raising μ-raising Inv-growing μ-growing
 
 abbrev begin : Turn → Begin
-begin c = c .before .before .before .before .before .before .before
+begin c = c .before .before .before .before .before .before
 
 abbrev turn-of : Join → Turn
 turn-of c = c .before .before .before
@@ -93,9 +93,8 @@ work-is c = ap (λ t. t .work) (c .pre .1 .1)
 steps-are : (c : Turn) → c .before .before .steps-of .result ≡ min (begin c .args .machine .processors) (length (held-jobs (begin c)))
 steps-are c = c .before .before .steps-of .ensures ∙ ap (min (begin c .args .machine .processors)) (sym (held-length (begin c)))
 
-top-is : (c : Begin) → c .args .machine .lowest + (c .args .machine .levels - 1) * c .args .machine .step ≡ top (c .args .machine)
-unfolding top speed
-top-is c = refl
+abbrev fast : Turn → tie.After-top-speed Inv-raising μ-raising Inv-growing μ-growing
+fast c = c .before .before .before .before
 
 -- ---- A step before its raises
 
@@ -127,26 +126,11 @@ ready c =
 sub-top : tie.Need-sub-top Inv-raising μ-raising Inv-growing μ-growing
 sub-top c = c .before .pre .0 .0 .levels .0
 
+top-speed-requires : tie.Need-top-speed-requires Inv-raising μ-raising Inv-growing μ-growing
+top-speed-requires c κs = c .before .pre .0 .0
+
 cast-top-speed : tie.Need-cast-top-speed Inv-raising μ-raising Inv-growing μ-growing
 cast-top-speed c = search needs
-
-cast-top-speed-2 : tie.Need-cast-top-speed-2 Inv-raising μ-raising Inv-growing μ-growing
-cast-top-speed-2 c = omega (arith, c .before .before .pre .0 .0 .levels .1)
-
-cast-top-speed-3 : tie.Need-cast-top-speed-3 Inv-raising μ-raising Inv-growing μ-growing
-cast-top-speed-3 c = search needs
-
-top-most : (c : Begin) → c .args .machine .lowest + (c .args .machine .levels - 1) * c .args .machine .step ≤ 256
-top-most c = rw (top-is c) (c .pre .0 .0 .top-speed)
-
-ticks-most : (c : Begin) → c .args .all .hyperperiod ≤ hyperperiodLimit
-ticks-most c = rw (ticks-are c) (c .pre .1 .0)
-
-mul-top-speed : tie.Need-mul-top-speed Inv-raising μ-raising Inv-growing μ-growing
-mul-top-speed c = omega (arith, top-most (c .before .before .before))
-
-add-top-speed : tie.Need-add-top-speed Inv-raising μ-raising Inv-growing μ-growing
-add-top-speed c = omega (arith, top-most (c .before .before .before))
 
 cast-step : tie.Need-cast-step Inv-raising μ-raising Inv-growing μ-growing
 cast-step c = search needs
@@ -154,8 +138,11 @@ cast-step c = search needs
 cast-step-2 : tie.Need-cast-step-2 Inv-raising μ-raising Inv-growing μ-growing
 cast-step-2 c = search needs
 
+ticks-most : (c : Begin) → c .args .all .hyperperiod ≤ hyperperiodLimit
+ticks-most c = rw (ticks-are c) (c .pre .1 .0)
+
 mul-step : tie.Need-mul-step Inv-raising μ-raising Inv-growing μ-growing
-mul-step c = let s = c .before .before .before .before in omega (arith, mul-le-mul (ticks-most s) (s .pre .0 .0 .step .1))
+mul-step c = let s = c .before .before .before in omega (arith, mul-le-mul (ticks-most s) (s .pre .0 .0 .step .1))
 
 steps-of-requires : tie.Need-steps-of-requires Inv-raising μ-raising Inv-growing μ-growing
 steps-of-requires c κs = search needs
@@ -165,7 +152,7 @@ none-taken-requires c κs = search needs
 
 growing-holds : tie.Need-growing-holds Inv-raising μ-raising Inv-growing μ-growing
 growing-holds c =
-    let b = c .before .before .before .before .before .before in (
+    let b = c .before .before .before .before .before in (
       omega arith,
       refl,
       subst (λ j. Outer (b .args .machine) (held-jobs b) (replicate 32 0) (replicate 32 0) 0 0 0 j 0) (sym (c .none-taken .ensures))
@@ -176,9 +163,6 @@ growing-holds c =
 
 few : (c : tie.In-growing Inv-raising μ-raising Inv-growing μ-growing) → c .before .growing .i < 32
 few c = omega (arith, inside c, begin (c .before) .pre .0 .0 .processors .1)
-
-cast-first : tie.Need-cast-first Inv-raising μ-raising Inv-growing μ-growing
-cast-first c = omega (arith, few c)
 
 add-first : tie.Need-add-first Inv-raising μ-raising Inv-growing μ-growing
 add-first c = omega (arith, few c)
@@ -203,9 +187,6 @@ add-supply c =
       lowest-most (begin t),
       supply-bound _ _ (given (begin t)) _ _ _ _ _ (t .growing .inv .2 .grows) (omega (arith, inside (c .before))),
     )
-
-add-if1 : tie.Need-add-if1 Inv-raising μ-raising Inv-growing μ-growing
-add-if1 c = omega (arith, few (c .before))
 
 next-job-requires : tie.Need-next-job-requires Inv-raising μ-raising Inv-growing μ-growing
 next-job-requires c κs = begin (c .before .before .before) .pre .0 .1
@@ -236,8 +217,10 @@ add-taken c =
 
 mul-need : tie.Need-mul-need Inv-raising μ-raising Inv-growing μ-growing
 mul-need c =
-    let b = begin (turn-of (c .before)) in
-    omega (arith, mul-le-mul (top-most b) (le-trans (ready (c .before) .most) (work-most _ _ (given b))))
+    let t = turn-of (c .before) in
+    let b = begin t in
+    let q : fast t .top-speed .result ≤ 256 = omega (arith, fast t .top-speed .ensures, b .pre .0 .0 .top-speed) in
+    omega (arith, mul-le-mul q (le-trans (ready (c .before) .most) (work-most _ _ (given b))))
 
 array-read-p : tie.Need-array-read-p Inv-raising μ-raising Inv-growing μ-growing
 array-read-p c = search needs
@@ -269,9 +252,10 @@ within c = inside (join-of c .before .before)
 
 -- What the test of the step asks for.
 asked : (c : Raise) →
-    (start-of c .args .machine .lowest + (start-of c .args .machine .levels - 1) * start-of c .args .machine .step) * join-of c .if1 .demand
-    ≡ top (start-of c .args .machine) * demand (start-of c .args .machine) (hyperperiod (held-jobs (start-of c))) (works (held-jobs (start-of c))) (suc (place c))
-asked c = ap₂ _*_ (top-is (start-of c)) (ready (join-of c) .demanded)
+    let M = start-of c .args .machine in
+    let jobs = held-jobs (start-of c) in
+    fast (turn-of (join-of c)) .top-speed .result * join-of c .if1 .demand ≡ top M * demand M (hyperperiod jobs) (works jobs) (suc (place c))
+asked c = ap₂ _*_ (fast (turn-of (join-of c)) .top-speed .ensures) (ready (join-of c) .demanded)
 
 low : (c : Raised) → c .before .before .raising .v < start-of (c .before .before) .args .machine .levels - 1
 low c = omega (arith, c .if2 .left, c .before .before .raising .inv .1 .within)
@@ -306,9 +290,6 @@ count c = raises-bound _ _ (given (start-of (c .before .before))) _ _ _ _ _ (gro
 add-levels : tie.Need-add-levels Inv-raising μ-raising Inv-growing μ-growing
 add-levels c = omega (arith, small c)
 
-cast-levels : tie.Need-cast-levels Inv-raising μ-raising Inv-growing μ-growing
-cast-levels c = omega (arith, placed-few c)
-
 array-write-levels : tie.Need-array-write-levels Inv-raising μ-raising Inv-growing μ-growing
 array-write-levels c = placed-few c
 
@@ -330,6 +311,9 @@ add-p c = omega (arith, placed-few c)
 cast-above : tie.Need-cast-above Inv-raising μ-raising Inv-growing μ-growing
 cast-above c = omega (arith, small c)
 
+mul-above : tie.Need-mul-above Inv-raising μ-raising Inv-growing μ-growing
+mul-above c = omega (arith, small c)
+
 array-write-above : tie.Need-array-write-above Inv-raising μ-raising Inv-growing μ-growing
 array-write-above c = omega (arith, small c)
 
@@ -338,6 +322,9 @@ add-v c = omega (arith, small (c .before))
 
 cast-p : tie.Need-cast-p Inv-raising μ-raising Inv-growing μ-growing
 cast-p c = omega (arith, small (c .before))
+
+mul-p : tie.Need-mul-p Inv-raising μ-raising Inv-growing μ-growing
+mul-p c = omega (arith, small (c .before))
 
 array-read-p-2 : tie.Need-array-read-p-2 Inv-raising μ-raising Inv-growing μ-growing
 array-read-p-2 c = small (c .before)
@@ -408,7 +395,7 @@ returns c =
     let r : Raise = record {
       before = record {
         before = record {
-          before = record { before = record { before = t; growing-test = w .0 }; struct-known5 = w .1 };
+          before = record { before = record { before = t; growing-test = w .0 }; struct-known3 = w .1 };
           if1 = w .2;
         };
         row-known = w .3;
@@ -443,24 +430,19 @@ grow-spec =
     Inv-growing
     μ-growing
     sub-top
+    top-speed-requires
     cast-top-speed
-    cast-top-speed-2
-    cast-top-speed-3
-    mul-top-speed
-    add-top-speed
     cast-step
     cast-step-2
     mul-step
     steps-of-requires
     none-taken-requires
     growing-holds
-    cast-first
     add-first
     cast-supply
     cast-supply-2
     mul-supply
     add-supply
-    add-if1
     next-job-requires
     work-of-requires
     add-taken
@@ -468,15 +450,16 @@ grow-spec =
     array-read-p
     raising-holds
     add-levels
-    cast-levels
     array-write-levels
     add-raises
     add-supply-2
     add-p
     cast-above
+    mul-above
     array-write-above
     add-v
     cast-p
+    mul-p
     array-read-p-2
     raising-less
     raising-again
