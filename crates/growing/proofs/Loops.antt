@@ -106,11 +106,11 @@ module _ (M : Machine) (jobs : List Job) (given : Given M jobs) where
   }
 
   module _ (levels above : List ℕ) (raises supply taken : ℕ) (job : Job) (i : ℕ) (o : Outer M jobs levels above raises supply taken job i) (inside : i < m) where
-    pub inner-begin : Inner M jobs levels above raises (supply + H * M .lowest) i 0 (level above 0)
+    pub inner-begin : (supply′ v p : ℕ) → supply′ ≡ supply + H * M .lowest → v ≡ 0 → p ≡ level above 0 → Inner M jobs levels above raises supply′ i v p
     unfolding steps
-    inner-begin = record {
-      grows = grows-join M (given .machine) H i levels above raises supply (o .grows) inside;
-      slowest = slowest-begin (o .grows .levels-are);
+    inner-begin supply′ v p e z q = record {
+      grows = rw e (grows-join M (given .machine) H i levels above raises supply (o .grows) inside);
+      slowest = rw (z, q) (slowest-begin (o .grows .levels-are));
       within = omega arith;
       same = ap (step M H ws (suc i)) (o .same);
     }
@@ -184,29 +184,35 @@ module _ (M : Machine) (jobs : List Job) (given : Given M jobs) where
           inside
 
       module _ (low : v < M .levels - 1) where
-        pub grown-more : Grows M H (suc i) (set levels p (v + 1)) (set above v (p + 1)) (raises + 1) (supply + H * M .step)
-        grown-more = grows-raise M (given .machine) H (suc i) levels above raises supply (n .grows) inside v p (n .slowest) low
+        -- The levels, the counts and the supply after the raise, each as the code finds it.
+        module _ (levels′ above′ : List ℕ) (raises′ supply′ : ℕ) (l : levels′ ≡ set levels p (v + 1)) (a : above′ ≡ set above v (p + 1))
+            (r : raises′ ≡ raises + 1) (u : supply′ ≡ supply + H * M .step) where
+          pub grown-more : Grows M H (suc i) levels′ above′ raises′ supply′
+          grown-more = rw (l, a, r, u) (grows-raise M (given .machine) H (suc i) levels above raises supply (n .grows) inside v p (n .slowest) low)
 
-        same-more : steps M H ws (suc i) ≡ step M H ws (suc i) (Grown (take m (set levels p (v + 1))) (raises + 1))
-        same-more =
-            n .same ∙ turn-raises M (given .machine) H ws i levels above raises supply need (n .grows) inside asked v p (n .slowest) short low
+          same-more : steps M H ws (suc i) ≡ step M H ws (suc i) (Grown (take m levels′) raises′)
+          same-more =
+              rw (l, r)
+              (n .same ∙ turn-raises M (given .machine) H ws i levels above raises supply need (n .grows) inside asked v p (n .slowest) short low)
 
-        pub inner-next : p + 1 < suc i → Inner M jobs (set levels p (v + 1)) (set above v (p + 1)) (raises + 1) (supply + H * M .step) i v (p + 1)
-        inner-next h = record {
-          grows = grown-more;
-          slowest = slowest-next (n .grows .levels-are) (n .slowest) low (omega (arith, given .machine .processors .1)) (omega (arith, given .machine .levels .1)) h;
-          within = n .within;
-          same = same-more;
-        }
+          -- The next processor of the same level, or, where p was the last, the first one level up.
+          pub inner-next : (p′ : ℕ) → p′ ≡ p + 1 → p + 1 < suc i → Inner M jobs levels′ above′ raises′ supply′ i v p′
+          inner-next p′ q h = record {
+            grows = grown-more;
+            slowest = rw (a, q)
+                (slowest-next (n .grows .levels-are) (n .slowest) low (omega (arith, given .machine .processors .1)) (omega (arith, given .machine .levels .1)) h);
+            within = n .within;
+            same = same-more;
+          }
 
-        pub inner-up : p + 1 ≡ suc i
-            → Inner M jobs (set levels p (v + 1)) (set above v (p + 1)) (raises + 1) (supply + H * M .step) i (v + 1) (level (set above v (p + 1)) (v + 1))
-        inner-up e = record {
-          grows = grown-more;
-          slowest = slowest-up (n .grows .levels-are) (n .slowest) low (omega (arith, given .machine .processors .1)) (omega (arith, given .machine .levels .1)) e;
-          within = omega arith;
-          same = same-more;
-        }
+          pub inner-up : (v′ p′ : ℕ) → v′ ≡ v + 1 → p′ ≡ level above′ (v + 1) → p + 1 ≡ suc i → Inner M jobs levels′ above′ raises′ supply′ i v′ p′
+          inner-up v′ p′ w q e = record {
+            grows = grown-more;
+            slowest = rw (w, q, a)
+                (slowest-up (n .grows .levels-are) (n .slowest) low (omega (arith, given .machine .processors .1)) (omega (arith, given .machine .levels .1)) e);
+            within = omega arith;
+            same = same-more;
+          }
 
   -- ---- After min(m, n) steps
 

@@ -115,10 +115,10 @@ ready c =
     let more : suc (t .growing .i) < min (b .args .machine .processors) (length (held-jobs b)) = omega (arith, w .0 .taken, steps-are t) in
     let e = w .2 .ensures ∙ ap₂ work (ticks-are b) (w .1 .ensures) in
     let taken = work-more _ _ (given b) _ _ _ _ _ _ _ o within more (w .2 .result) e in
-    ready-more _ _ (given b) _ _ _ _ _ _ _ o within more _ _ _ (w .5 ∙ taken) (w .3 ∙ taken) (w .4 ∙ w .1 .ensures))
+    ready-more _ _ (given b) _ _ _ _ _ _ _ o within more _ _ _ (omega (arith, w .5, taken)) (omega (arith, w .3, taken)) (w .4 ∙ w .1 .ensures))
     (λ w.
     let last : suc (t .growing .i) ≡ min (b .args .machine .processors) (length (held-jobs b)) = omega (arith, w .0 .left, steps-are t, c .before .before .growing-test .taken) in
-    ready-last _ _ (given b) _ _ _ _ _ _ _ o within last _ _ _ (w .3 ∙ work-is b))
+    ready-last _ _ (given b) _ _ _ _ _ _ _ o within last _ _ _ (omega (arith, w .3, work-is b)))
     (c .if1 .came)
 
 -- ---- Before the loops
@@ -231,9 +231,8 @@ raising-holds c =
     let b = begin t in
     let g = t .growing in (
       g .inv .1,
-      subst (λ (h : ℕ). Inner (b .args .machine) (held-jobs b) (g .levels) (g .above) (g .raises) (g .supply + h * b .args .machine .lowest) (g .i) 0 (level (g .above) 0))
-          (sym (ticks-are b))
-          (inner-begin _ _ (given b) _ _ _ _ _ _ _ (g .inv .2) (inside (c .before .before .before))),
+      inner-begin _ _ (given b) _ _ _ _ _ _ _ (g .inv .2) (inside (c .before .before .before)) _ _ _
+          (ap (λ (h : ℕ). g .supply + h * b .args .machine .lowest) (ticks-are b)) (omega arith) refl,
     )
 
 -- ---- A raise
@@ -260,7 +259,15 @@ asked c = ap₂ _*_ (fast (turn-of (join-of c)) .top-speed .ensures) (ready (joi
 low : (c : Raised) → c .before .before .raising .v < start-of (c .before .before) .args .machine .levels - 1
 low c = omega (arith, c .if2 .left, c .before .before .raising .inv .1 .within)
 
--- What the raise makes of levels, count and supply.
+-- What the raise makes of the supply.
+supply-more : (c : Raised) →
+    let r = c .before .before in
+    let b = start-of r in
+    r .raising .supply + b .args .all .hyperperiod * b .args .machine .step ≡ r .raising .supply + hyperperiod (held-jobs b) * b .args .machine .step
+supply-more c =
+    let r = c .before .before in
+    ap (λ (h : ℕ). r .raising .supply + h * start-of r .args .machine .step) (ticks-are (start-of r))
+
 grown : (c : Raised) →
     let r = c .before .before in
     let b = start-of r in
@@ -269,11 +276,7 @@ grown : (c : Raised) →
     (v .supply + b .args .all .hyperperiod * b .args .machine .step)
 grown c =
     let r = c .before .before in
-    let b = start-of r in
-    let v = r .raising in
-    subst (λ (h : ℕ). Grows (b .args .machine) (hyperperiod (held-jobs b)) (suc (place r)) (set (v .levels) (v .p) (v .v + 1)) (set (v .above) (v .v) (v .p + 1)) (v .raises + 1)
-    (v .supply + h * b .args .machine .step)) (sym (ticks-are b))
-    (grown-more _ _ (given b) _ _ _ _ _ _ _ _ (v .inv .1) (within r) (asked r) (c .before .raising-test .taken) (low c))
+    grown-more _ _ (given (start-of r)) _ _ _ _ _ _ _ _ (r .raising .inv .1) (within r) (asked r) (c .before .raising-test .taken) (low c) _ _ _ _ refl refl refl (supply-more c)
 
 small : (c : Raised) → c .before .before .raising .v + 1 < 32
 small c = omega (arith, low c, start-of (c .before .before) .pre .0 .0 .levels .1)
@@ -291,7 +294,7 @@ add-levels : tie.Need-add-levels Inv-raising μ-raising Inv-growing μ-growing
 add-levels c = omega (arith, small c)
 
 array-write-levels : tie.Need-array-write-levels Inv-raising μ-raising Inv-growing μ-growing
-array-write-levels c = placed-few c
+array-write-levels c = omega (arith, placed-few c, few (join-of (c .before .before) .before .before))
 
 add-raises : tie.Need-add-raises Inv-raising μ-raising Inv-growing μ-growing
 add-raises c =
@@ -336,13 +339,10 @@ raising-again : tie.Need-raising-again Inv-raising μ-raising Inv-growing μ-gro
 raising-again c =
     let e = c .before in
     let r = e .before .before in
-    let b = start-of r in
     let v = r .raising in (
       v .inv .0,
-      subst (λ (h : ℕ). Inner (b .args .machine) (held-jobs b) (set (v .levels) (v .p) (v .v + 1)) (set (v .above) (v .v) (v .p + 1)) (v .raises + 1)
-          (v .supply + h * b .args .machine .step) (place r) (v .v + 1) (level (set (v .above) (v .v) (v .p + 1)) (v .v + 1)))
-          (sym (ticks-are b))
-          (inner-up _ _ (given b) _ _ _ _ _ _ _ _ (v .inv .1) (within r) (asked r) (e .before .raising-test .taken) (low e) (omega (arith, c .if3 .taken))),
+      inner-up _ _ (given (start-of r)) _ _ _ _ _ _ _ _ (v .inv .1) (within r) (asked r) (e .before .raising-test .taken) (low e) _ _ _ _
+          refl refl (omega arith) (supply-more e) _ _ (omega arith) refl (omega (arith, c .if3 .taken)),
     )
 
 raising-less-2 : tie.Need-raising-less-2 Inv-raising μ-raising Inv-growing μ-growing
@@ -352,13 +352,10 @@ raising-again-2 : tie.Need-raising-again-2 Inv-raising μ-raising Inv-growing μ
 raising-again-2 c =
     let e = c .before in
     let r = e .before .before in
-    let b = start-of r in
     let v = r .raising in (
       v .inv .0,
-      subst (λ (h : ℕ). Inner (b .args .machine) (held-jobs b) (set (v .levels) (v .p) (v .v + 1)) (set (v .above) (v .v) (v .p + 1)) (v .raises + 1)
-          (v .supply + h * b .args .machine .step) (place r) (v .v) (v .p + 1))
-          (sym (ticks-are b))
-          (inner-next _ _ (given b) _ _ _ _ _ _ _ _ (v .inv .1) (within r) (asked r) (e .before .raising-test .taken) (low e) (omega (arith, c .if3 .left, placed e))),
+      inner-next _ _ (given (start-of r)) _ _ _ _ _ _ _ _ (v .inv .1) (within r) (asked r) (e .before .raising-test .taken) (low e) _ _ _ _
+          refl refl (omega arith) (supply-more e) _ (omega arith) (omega (arith, c .if3 .left, placed e)),
     )
 
 add-i : tie.Need-add-i Inv-raising μ-raising Inv-growing μ-growing

@@ -32,7 +32,7 @@ abbrev rest : Outer → ℕ → List Job
 rest c j = drop j (take (c .before .args .held) (c .before .args .t1))
 
 abbrev job-at : Outer → Job
-job-at c = getD (c .before .args .t1) (c .loop .j - 1) none
+job-at c = getD (c .before .args .t1) (c .loop .i - 1) none
 
 long : (c : tie.Start Inv-loop μ-loop) → c .args .held ≤ length (c .args .t1)
 long c = let e : length (c .args .t1) ≡ 64 = search needs in omega arith
@@ -44,8 +44,8 @@ loop-holds : tie.Need-loop-holds Inv-loop μ-loop
 unfolding totals hyperperiod works costsFit
 loop-holds c = rw (suffix-none none (c .args .held) (c .args .t1) (long c)) (omega arith, refl, omega arith)
 
-sub-j : tie.Need-sub-j Inv-loop μ-loop
-sub-j c = omega arith
+sub-i : tie.Need-sub-i Inv-loop μ-loop
+sub-i c = omega arith
 
 mul-with : tie.Need-mul-with Inv-loop μ-loop
 mul-with c = omega arith
@@ -54,19 +54,19 @@ array-copy-out-with : tie.Need-array-copy-out-with Inv-loop μ-loop
 array-copy-out-with c = omega arith
 
 -- The job at j − 1 and those after it.
-more : (c : tie.In-loop Inv-loop μ-loop) → rest (c .before) (c .before .loop .j - 1) ≡ job-at (c .before) ∷ rest (c .before) (c .before .loop .j)
+more : (c : tie.In-loop Inv-loop μ-loop) → rest (c .before) (c .before .loop .i - 1) ≡ job-at (c .before) ∷ rest (c .before) (c .before .loop .i)
 more c =
     let o = c .before in
-    suffix-more none (o .before .args .held) (o .before .args .t1) (long (o .before)) (o .loop .j) (omega arith) (omega arith)
+    suffix-more none (o .before .args .held) (o .before .args .t1) (long (o .before)) (o .loop .i) (omega arith) (omega arith)
 
 with-requires : tie.Need-with-requires Inv-loop μ-loop
 with-requires c κs =
     let i = c .before in
     let o = i .before in
     let v = o .loop .inv in (
-      subst (Every JobInRange) (more i) (in-range o (o .loop .j - 1)) .0,
-      totals-range (o .loop .totals) (rest o (o .loop .j)) (v .1) (in-range o (o .loop .j))
-          (omega (arith, suffix-length none (o .before .args .held) (o .before .args .t1) (long (o .before)) (o .loop .j)))
+      subst (Every JobInRange) (more i) (in-range o (o .loop .i - 1)) .0,
+      totals-range (o .loop .totals) (rest o (o .loop .i)) (v .1) (in-range o (o .loop .i))
+          (omega (arith, suffix-length none (o .before .args .held) (o .before .args .t1) (long (o .before)) (o .loop .i)))
           (v .2),
     )
 
@@ -74,13 +74,13 @@ enum-known-next : tie.Need-enum-known-next Inv-loop μ-loop
 enum-known-next c = search needs
 
 -- What a turn finds is the load of the jobs from j − 1 on.
-turn : (c : tie.After-with Inv-loop μ-loop) → c .with .result ≡ loadOf (rest (c .before .before .before) (c .before .before .before .loop .j - 1))
+turn : (c : tie.After-with Inv-loop μ-loop) → c .with .result ≡ loadOf (rest (c .before .before .before) (c .before .before .before .loop .i - 1))
 turn c =
     let i = c .before .before in
     let o = i .before in
     c .with .ensures
     ∙ ap (λ t. withJob t (job-at o)) (o .loop .inv .1)
-    ∙ sym (load-more (job-at o) (rest o (o .loop .j)))
+    ∙ sym (load-more (job-at o) (rest o (o .loop .i)))
     ∙ ap loadOf (sym (more i))
 
 loop-less : tie.Need-loop-less Inv-loop μ-loop
@@ -100,14 +100,14 @@ returns c =
     let w = c .before .before in
     let s = w .before .before .before .before in
     let all = take (s .args .held) (s .args .t1) in
-    sym (load-above all (above-drop (w .before .before .before .loop .j - 1) all (in-range-positive all (s .pre .1))
+    sym (load-above all (above-drop (w .before .before .before .loop .i - 1) all (in-range-positive all (s .pre .1))
     (says-too-long _ (sym (turn w) ∙ c .enum-told .given .1))))
 
 returns-2 : tie.Need-returns-2 Inv-loop μ-loop
 returns-2 c =
     let o = c .before in
-    let z : o .loop .j ≡ 0 = omega arith in
-    let all : rest o (o .loop .j) ≡ take (o .before .args .held) (o .before .args .t1) = ap (rest o) z in
+    let z : o .loop .i ≡ 0 = omega arith in
+    let all : rest o (o .loop .i) ≡ take (o .before .args .held) (o .before .args .t1) = ap (rest o) z in
     ap Within (o .loop .inv .1) ∙ sym (load-within _ (o .loop .inv .2)) ∙ ap loadOf all
 
 pub load-of-spec : {M : Type 1} → statement M
@@ -117,7 +117,7 @@ load-of-spec =
     Inv-loop
     μ-loop
     loop-holds
-    sub-j
+    sub-i
     mul-with
     array-copy-out-with
     with-requires

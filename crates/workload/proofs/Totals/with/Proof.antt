@@ -113,18 +113,31 @@ scaled c =
 mul-work-2 : tie.Need-mul-work-2
 mul-work-2 c = omega (arith, scaled (c .before))
 
+-- Of the hyperperiod's parts, by the common divisor and by the window.
+parts : (c : tie.After-gcd) →
+    let h = start (joined c) .args .self .hyperperiod in
+    let w = joined c .before .window .result in
+    (h / c .gcd .result ≤ h) × (h / w ≤ h)
+parts c = (div-le-self _ (c .gcd .result), div-le-self _ (joined c .before .window .result))
+
+shares : (c : tie.After-gcd) →
+    let s = start (joined c) in
+    let h = s .args .self .hyperperiod in
+    let w = joined c .before .window .result in
+    (s .args .job .cost * (h / c .gcd .result) ≤ 65535 * h) × (s .args .job .cost * (h / w) ≤ 65535 * h)
+shares c = (share (joined c) (c .gcd .result), share (joined c) (joined c .before .window .result))
+
 div-work-2 : tie.Need-div-work-2
-div-work-2 c = div-factor (c .before .before)
+div-work-2 c = omega (arith, div-factor (c .before .before), positive (joined (c .before .before)))
 
 cast-work-2 : tie.Need-cast-work-2
-cast-work-2 c =
-    omega (arith, div-le-self (start (joined (c .before .before)) .args .self .hyperperiod) (c .before .before .gcd .result))
+cast-work-2 c = omega (arith, parts (c .before .before))
 
 mul-work-3 : tie.Need-mul-work-3
-mul-work-3 c = omega (arith, share (joined (c .before .before)) (c .before .before .gcd .result))
+mul-work-3 c = omega (arith, shares (c .before .before))
 
 add-work-2 : tie.Need-add-work-2
-add-work-2 c = omega (arith, scaled (c .before), share (joined (c .before .before)) (c .before .before .gcd .result))
+add-work-2 c = omega (arith, scaled (c .before), shares (c .before .before))
 
 cast-t20 : tie.Need-cast-t20
 cast-t20 c = search needs
