@@ -75,13 +75,20 @@ fn grow(machine: Machine, jobs: [Job; 64], held: usize, all: Totals) -> Plan
     let mut supply: u64 = 0;
     let mut taken: u64 = 0;
     let mut job = none_taken();
+    // whether the works that are left are small: no test before the last fails for them
+    let mut small = false;
     'growing: for i in 0..steps {
         let first = i + 1;
-        supply += hyperperiod as u64 * machine.lowest as u64;
+        let least = hyperperiod as u64 * machine.lowest as u64;
+        supply += least;
         let mut demand = all.work;
         if first < steps {
-            job = next_job(jobs, held, job);
-            taken += work_of(job, hyperperiod);
+            if !small {
+                job = next_job(jobs, held, job);
+                let work = work_of(job, hyperperiod);
+                taken += work;
+                small = top_speed * work <= least;
+            }
             demand = taken;
         }
         let need = top_speed * demand;

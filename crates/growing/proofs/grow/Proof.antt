@@ -9,6 +9,7 @@ use mathlib.Core.Bool.{true, false, true≢false}
 use mathlib.Core.Logic.{⊎-elim}
 use borrow.Author.Needs.{needs}
 use borrow.Author.Tests.{not-true, not-false}
+use lib.Dec.{leb}
 use lib.ListN.{length, getD, take, set, replicate}
 use lib.Seq.{length-take-le}
 use Rattle.gmf.specs.declared.Job.{Job}
@@ -22,24 +23,25 @@ use Rattle.workload.specs.declared.Verdict.the-variants.{SomePlan}
 use Rattle.workload.proofs.Turns.{turn-every}
 use Rattle.growing.specs.Plan.{stated}
 use Rattle.growing.proofs.Raises.{Grows}
-use Rattle.growing.proofs.Loops.{Given, Outer, Inner, Ready, outer-begin, inner-begin, work-more, ready-more, ready-last, supply-bound, raises-bound, work-most, next-is, outer-next, step-none, grown-more, inner-next, inner-up, finished}
+use Rattle.growing.proofs.Works.{Given, Told, Asks, Ready, ready-same, work-most, next-range, work-more-most, ready-taken, ready-small, ready-last}
+use Rattle.growing.proofs.Loops.{Outer, Inner, outer-begin, inner-begin, supply-bound, raises-bound, outer-next, step-none, grown-more, inner-next, inner-up, finished}
 use Rattle.growing.proofs.grow.Statement.{statement}
 use Rattle.growing.proofs.grow.Tie as tie
 
 abbrev Inv-raising : tie.InvT-raising
-Inv-raising machine jobs held all ticks topmost top-speed step steps levels₀ above₀ raises₀ found₀ supply₀ taken job i first demand need v₀ p₀ levels above raises found supply v p =
-    (found ≡ true) × Inner machine (take held jobs) levels above raises supply i v p
+Inv-raising machine jobs held all ticks topmost top-speed step steps levels₀ above₀ raises₀ found₀ supply₀ taken job small i first least demand need v₀ p₀ levels above raises found supply v p =
+    (found ≡ true) × Inner machine (take held jobs) need levels above raises supply i v p
 
 abbrev μ-raising : tie.MeasureT-raising
-μ-raising machine jobs held all ticks topmost top-speed step steps levels₀ above₀ raises₀ found₀ supply₀ taken job i first demand need v₀ p₀ levels above raises found supply v p =
+μ-raising machine jobs held all ticks topmost top-speed step steps levels₀ above₀ raises₀ found₀ supply₀ taken job small i first least demand need v₀ p₀ levels above raises found supply v p =
     suc i * topmost - raises
 
 abbrev Inv-growing : tie.InvT-growing
-Inv-growing machine jobs held all ticks topmost top-speed step steps levels₀ above₀ raises₀ found₀ supply₀ taken₀ job₀ i₀ levels above raises found supply taken job i =
-    (i ≤ steps) × (found ≡ true) × Outer machine (take held jobs) levels above raises supply taken job i
+Inv-growing machine jobs held all ticks topmost top-speed step steps levels₀ above₀ raises₀ found₀ supply₀ taken₀ job₀ small₀ i₀ levels above raises found supply taken job small i =
+    (i ≤ steps) × (found ≡ true) × Outer machine (take held jobs) levels above raises supply taken job small i
 
 abbrev μ-growing : tie.MeasureT-growing
-μ-growing machine jobs held all ticks topmost top-speed step steps levels₀ above₀ raises₀ found₀ supply₀ taken₀ job₀ i₀ levels above raises found supply taken job i =
+μ-growing machine jobs held all ticks topmost top-speed step steps levels₀ above₀ raises₀ found₀ supply₀ taken₀ job₀ small₀ i₀ levels above raises found supply taken job small i =
     steps - i
 
 -- ---- The places, and the ways from one to another
@@ -102,23 +104,45 @@ fast c = c .before .before .before .before
 inside : (c : tie.In-growing Inv-raising μ-raising Inv-growing μ-growing) → c .before .growing .i < begin (c .before) .args .machine .processors
 inside c = omega (arith, c .growing-test .taken, steps-are (c .before))
 
+-- What a processor at level 0 gets done.
+least-is : (c : Turn) → begin c .args .all .hyperperiod * begin c .args .machine .lowest ≡ hyperperiod (held-jobs (begin c)) * begin c .args .machine .lowest
+least-is c = ap (λ (h : ℕ). h * begin c .args .machine .lowest) (ticks-are (begin c))
+
+-- What test suc i is held against.
+abbrev begun : Turn → ℕ
+begun c = c .growing .supply + begin c .args .all .hyperperiod * begin c .args .machine .lowest
+
+abbrev limit : Turn → ℕ
+limit c = min (begin c .args .machine .processors) (length (held-jobs (begin c)))
+
+told : (c : Turn) → suc (c .growing .i) < limit c → Told (begin c .args .machine) (held-jobs (begin c)) (c .growing .taken) (c .growing .job) (c .growing .small) (c .growing .i)
+told c h = c .growing .inv .2 .told (omega arith)
+
 ready : (c : Join) →
     let t = turn-of c in
-    Ready (begin t .args .machine) (held-jobs (begin t)) (c .if1 .demand) (c .if1 .taken) (c .if1 .job) (t .growing .i)
+    Ready (begin t .args .machine) (held-jobs (begin t)) (c .if1 .demand) (c .if1 .taken) (c .if1 .job) (c .if1 .small) (begun t) (t .growing .i)
 ready c =
     let t = turn-of c in
     let b = begin t in
-    let o = t .growing .inv .2 in
-    let within = inside (c .before .before) in
+    let g = t .growing in
     ⊎-elim
     (λ w.
-    let more : suc (t .growing .i) < min (b .args .machine .processors) (length (held-jobs b)) = omega (arith, w .0 .taken, steps-are t) in
-    let e = w .2 .ensures ∙ ap₂ work (ticks-are b) (w .1 .ensures) in
-    let taken = work-more _ _ (given b) _ _ _ _ _ _ _ o within more (w .2 .result) e in
-    ready-more _ _ (given b) _ _ _ _ _ _ _ o within more _ _ _ (omega (arith, w .5, taken)) (omega (arith, w .3, taken)) (w .4 ∙ w .1 .ensures))
+    let more : suc (g .i) < limit t = omega (arith, w .0 .taken, steps-are t) in
+    let e = w .3 .ensures ∙ ap (λ (h : ℕ). work h (w .2 .result)) (ticks-are b) in
+    let s = ap₂ (λ (q n : ℕ). leb (q * w .3 .result) n) (fast t .top-speed .ensures) (least-is t) in
+    ready-same refl refl (w .5) refl
+    (ready-taken _ _ (given b) (g .i) (begun t) _ _ _ (told t more) more (not-true (g .small) (w .1 .taken)) (w .2 .result) (w .3 .result) (w .2 .ensures) e
+    (c .if1 .demand) (c .if1 .taken) (c .if1 .small) (omega (arith, w .4)) (omega (arith, w .4, w .7)) (w .6 ∙ s)))
+    (⊎-elim
     (λ w.
-    let last : suc (t .growing .i) ≡ min (b .args .machine .processors) (length (held-jobs b)) = omega (arith, w .0 .left, steps-are t, c .before .before .growing-test .taken) in
-    ready-last _ _ (given b) _ _ _ _ _ _ _ o within last _ _ _ (omega (arith, w .3, work-is b)))
+    let more : suc (g .i) < limit t = omega (arith, w .0 .taken, steps-are t) in
+    let now : g .i < limit t = omega arith in
+    ready-same refl (w .2) (w .3) (w .4)
+    (ready-small _ _ (given b) (g .i) (g .supply) _ _ _ (told t more) more (not-false (g .small) (w .1 .left)) (g .inv .2 .weighed now) (g .inv .2 .tested now)
+    _ (c .if1 .demand) (ap (λ (n : ℕ). g .supply + n) (least-is t)) (omega (arith, w .5))))
+    (λ w.
+    let end : suc (g .i) ≡ limit t = omega (arith, w .0 .left, steps-are t, c .before .before .growing-test .taken) in
+    ready-last _ _ (given b) _ _ _ _ _ _ end (omega (arith, w .4, work-is b))))
     (c .if1 .came)
 
 -- ---- Before the loops
@@ -152,12 +176,8 @@ none-taken-requires c κs = search needs
 
 growing-holds : tie.Need-growing-holds Inv-raising μ-raising Inv-growing μ-growing
 growing-holds c =
-    let b = c .before .before .before .before .before in (
-      omega arith,
-      refl,
-      subst (λ j. Outer (b .args .machine) (held-jobs b) (replicate 32 0) (replicate 32 0) 0 0 0 j 0) (sym (c .none-taken .ensures))
-          (outer-begin (b .args .machine) (held-jobs b) (given b)),
-    )
+    let b = c .before .before .before .before .before in
+    (omega arith, refl, outer-begin (b .args .machine) (held-jobs b) (given b) (c .none-taken .result) (c .none-taken .ensures))
 
 -- ---- A step
 
@@ -167,17 +187,17 @@ few c = omega (arith, inside c, begin (c .before) .pre .0 .0 .processors .1)
 add-first : tie.Need-add-first Inv-raising μ-raising Inv-growing μ-growing
 add-first c = omega (arith, few c)
 
-cast-supply : tie.Need-cast-supply Inv-raising μ-raising Inv-growing μ-growing
-cast-supply c = search needs
+cast-least : tie.Need-cast-least Inv-raising μ-raising Inv-growing μ-growing
+cast-least c = search needs
 
-cast-supply-2 : tie.Need-cast-supply-2 Inv-raising μ-raising Inv-growing μ-growing
-cast-supply-2 c = search needs
+cast-least-2 : tie.Need-cast-least-2 Inv-raising μ-raising Inv-growing μ-growing
+cast-least-2 c = search needs
 
 lowest-most : (c : Begin) → c .args .all .hyperperiod * c .args .machine .lowest ≤ hyperperiodLimit * 256
 lowest-most c = mul-le-mul (ticks-most c) (c .pre .0 .0 .lowest .1)
 
-mul-supply : tie.Need-mul-supply Inv-raising μ-raising Inv-growing μ-growing
-mul-supply c = omega (arith, lowest-most (begin (c .before .before)))
+mul-least : tie.Need-mul-least Inv-raising μ-raising Inv-growing μ-growing
+mul-least c = omega (arith, lowest-most (begin (c .before .before)))
 
 add-supply : tie.Need-add-supply Inv-raising μ-raising Inv-growing μ-growing
 add-supply c =
@@ -189,31 +209,42 @@ add-supply c =
     )
 
 next-job-requires : tie.Need-next-job-requires Inv-raising μ-raising Inv-growing μ-growing
-next-job-requires c κs = begin (c .before .before .before) .pre .0 .1
+next-job-requires c κs = begin (c .before .before .before .before) .pre .0 .1
+
+-- Where another job is taken.
+abbrev Took : Type 0
+Took = tie.After-next-job Inv-raising μ-raising Inv-growing μ-growing
+
+abbrev turn-at : Took → Turn
+turn-at c = c .before .before .before .before .before
+
+more : (c : Took) → suc (turn-at c .growing .i) < limit (turn-at c)
+more c = omega (arith, c .before .before .if1 .taken, steps-are (turn-at c))
+
+not-small : (c : Took) → turn-at c .growing .small ≡ false
+not-small c = not-true (turn-at c .growing .small) (c .before .if2 .taken)
 
 work-of-requires : tie.Need-work-of-requires Inv-raising μ-raising Inv-growing μ-growing
 work-of-requires c κs =
-    let t = c .before .before .before .before in
-    let b = begin t in
-    let i = t .growing .i in
-    let more : suc i < min (b .args .machine .processors) (length (held-jobs b)) = omega (arith, c .before .if1 .taken, steps-are t) in
-    let e = next-is _ _ (given b) _ _ _ _ _ _ _ (t .growing .inv .2) (inside (c .before .before .before)) more in
-    subst JobInRange (sym (c .next-job .ensures ∙ e))
-    (turn-every (held-jobs b) (b .pre .0 .2) (b .pre .0 .3) JobInRange (b .pre .0 .2) i (omega arith))
+    let t = turn-at c in
+    next-range _ _ (given (begin t)) _ 0 _ _ _ (told t (more c)) (more c) (not-small c) (c .next-job .result) 0 (c .next-job .ensures)
+
+sums : (c : tie.After-work-of Inv-raising μ-raising Inv-growing μ-growing) → turn-at (c .before) .growing .taken + c .work-of .result ≤ 64 * 65535 * hyperperiodLimit
+sums c =
+    let k = c .before in
+    let t = turn-at k in
+    let e = c .work-of .ensures ∙ ap (λ (h : ℕ). work h (k .next-job .result)) (ticks-are (begin t)) in
+    work-more-most _ _ (given (begin t)) _ 0 _ _ _ (told t (more k)) (more k) (not-small k) (k .next-job .result) (c .work-of .result) (k .next-job .ensures) e
 
 add-taken : tie.Need-add-taken Inv-raising μ-raising Inv-growing μ-growing
-add-taken c =
-    let t = c .before .before .before .before .before in
-    let b = begin t in
-    let i = t .growing .i in
-    let more : suc i < min (b .args .machine .processors) (length (held-jobs b)) = omega (arith, c .before .before .if1 .taken, steps-are t) in
-    let e = c .work-of .ensures ∙ ap₂ work (ticks-are b) (c .before .next-job .ensures) in
-    omega (
-      arith,
-      work-more _ _ (given b) _ _ _ _ _ _ _ (t .growing .inv .2) (inside (c .before .before .before .before)) more (c .work-of .result) e,
-      largest-some (suc i) (works (held-jobs b)),
-      work-most _ _ (given b),
-    )
+add-taken c = omega (arith, sums c)
+
+mul-small : tie.Need-mul-small Inv-raising μ-raising Inv-growing μ-growing
+mul-small c =
+    let t = turn-at (c .before) in
+    let q : fast t .top-speed .result ≤ 256 = omega (arith, fast t .top-speed .ensures, begin t .pre .0 .0 .top-speed) in
+    let w : c .work-of .result ≤ 64 * 65535 * hyperperiodLimit = omega (arith, sums c) in
+    omega (arith, mul-le-mul q w)
 
 mul-need : tie.Need-mul-need Inv-raising μ-raising Inv-growing μ-growing
 mul-need c =
@@ -225,20 +256,31 @@ mul-need c =
 array-read-p : tie.Need-array-read-p Inv-raising μ-raising Inv-growing μ-growing
 array-read-p c = search needs
 
+-- What the test of the step asks for.
+asks : (c : Join) →
+    let t = turn-of c in
+    let b = begin t in
+    Asks (b .args .machine) (held-jobs b) (fast t .top-speed .result * c .if1 .demand) (t .growing .supply + b .args .all .hyperperiod * b .args .machine .lowest) (t .growing .i)
+asks c =
+    let t = turn-of c in
+    let b = begin t in
+    subst (λ (q : ℕ). Asks (b .args .machine) (held-jobs b) (q * c .if1 .demand) (t .growing .supply + b .args .all .hyperperiod * b .args .machine .lowest) (t .growing .i))
+    (sym (fast t .top-speed .ensures)) (ready c .asks)
+
 raising-holds : tie.Need-raising-holds Inv-raising μ-raising Inv-growing μ-growing
 raising-holds c =
     let t = turn-of (c .before) in
     let b = begin t in
     let g = t .growing in (
       g .inv .1,
-      inner-begin _ _ (given b) _ _ _ _ _ _ _ (g .inv .2) (inside (c .before .before .before)) _ _ _
-          (ap (λ (h : ℕ). g .supply + h * b .args .machine .lowest) (ticks-are b)) (omega arith) refl,
+      inner-begin _ _ (given b) _ _ _ _ _ _ _ _ (g .inv .2) (inside (c .before .before .before)) _ _ _ _
+          (ap (λ (n : ℕ). g .supply + n) (least-is t)) (omega arith) refl (asks (c .before)),
     )
 
 -- ---- A raise
 
 abbrev Raised : Type 0
-Raised = tie.Else2 Inv-raising μ-raising Inv-growing μ-growing
+Raised = tie.Else3 Inv-raising μ-raising Inv-growing μ-growing
 
 abbrev start-of : Raise → Begin
 start-of c = begin (turn-of (join-of c))
@@ -249,15 +291,8 @@ place c = turn-of (join-of c) .growing .i
 within : (c : Raise) → place c < start-of c .args .machine .processors
 within c = inside (join-of c .before .before)
 
--- What the test of the step asks for.
-asked : (c : Raise) →
-    let M = start-of c .args .machine in
-    let jobs = held-jobs (start-of c) in
-    fast (turn-of (join-of c)) .top-speed .result * join-of c .if1 .demand ≡ top M * demand M (hyperperiod jobs) (works jobs) (suc (place c))
-asked c = ap₂ _*_ (fast (turn-of (join-of c)) .top-speed .ensures) (ready (join-of c) .demanded)
-
 low : (c : Raised) → c .before .before .raising .v < start-of (c .before .before) .args .machine .levels - 1
-low c = omega (arith, c .if2 .left, c .before .before .raising .inv .1 .within)
+low c = omega (arith, c .if3 .left, c .before .before .raising .inv .1 .within)
 
 -- What the raise makes of the supply.
 supply-more : (c : Raised) →
@@ -276,7 +311,7 @@ grown : (c : Raised) →
     (v .supply + b .args .all .hyperperiod * b .args .machine .step)
 grown c =
     let r = c .before .before in
-    grown-more _ _ (given (start-of r)) _ _ _ _ _ _ _ _ (r .raising .inv .1) (within r) (asked r) (c .before .raising-test .taken) (low c) _ _ _ _ refl refl refl (supply-more c)
+    grown-more _ _ (given (start-of r)) _ _ _ _ _ _ _ _ (r .raising .inv .1) (within r) (c .before .raising-test .taken) (low c) _ _ _ _ refl refl refl (supply-more c)
 
 small : (c : Raised) → c .before .before .raising .v + 1 < 32
 small c = omega (arith, low c, start-of (c .before .before) .pre .0 .0 .levels .1)
@@ -341,8 +376,8 @@ raising-again c =
     let r = e .before .before in
     let v = r .raising in (
       v .inv .0,
-      inner-up _ _ (given (start-of r)) _ _ _ _ _ _ _ _ (v .inv .1) (within r) (asked r) (e .before .raising-test .taken) (low e) _ _ _ _
-          refl refl (omega arith) (supply-more e) _ _ (omega arith) refl (omega (arith, c .if3 .taken)),
+      inner-up _ _ (given (start-of r)) _ _ _ _ _ _ _ _ (v .inv .1) (within r) (e .before .raising-test .taken) (low e) _ _ _ _
+          refl refl (omega arith) (supply-more e) _ _ (omega arith) refl (omega (arith, c .if4 .taken)),
     )
 
 raising-less-2 : tie.Need-raising-less-2 Inv-raising μ-raising Inv-growing μ-growing
@@ -354,8 +389,8 @@ raising-again-2 c =
     let r = e .before .before in
     let v = r .raising in (
       v .inv .0,
-      inner-next _ _ (given (start-of r)) _ _ _ _ _ _ _ _ (v .inv .1) (within r) (asked r) (e .before .raising-test .taken) (low e) _ _ _ _
-          refl refl (omega arith) (supply-more e) _ (omega arith) (omega (arith, c .if3 .left, placed e)),
+      inner-next _ _ (given (start-of r)) _ _ _ _ _ _ _ _ (v .inv .1) (within r) (e .before .raising-test .taken) (low e) _ _ _ _
+          refl refl (omega arith) (supply-more e) _ (omega arith) (omega (arith, c .if4 .left, placed e)),
     )
 
 add-i : tie.Need-add-i Inv-raising μ-raising Inv-growing μ-growing
@@ -368,11 +403,12 @@ growing-again : tie.Need-growing-again Inv-raising μ-raising Inv-growing μ-gro
 growing-again c =
     let r = c .before in
     let b = start-of r in
-    let v = r .raising in (
+    let v = r .raising in
+    let need = ap (λ (q : ℕ). q * join-of r .if1 .demand) (fast (turn-of (join-of r)) .top-speed .ensures) in (
       omega (arith, join-of r .before .before .growing-test .taken),
       v .inv .0,
-      subst (Outer (b .args .machine) (held-jobs b) (v .levels) (v .above) (v .raises) (v .supply) (join-of r .if1 .taken) (join-of r .if1 .job)) (sym (add-one (place r)))
-          (outer-next _ _ (given b) _ _ _ _ _ _ _ _ (v .inv .1) (within r) (asked r) _ _ _ (ready (join-of r)) (c .raising-test .left)),
+      subst (Outer (b .args .machine) (held-jobs b) (v .levels) (v .above) (v .raises) (v .supply) (join-of r .if1 .taken) (join-of r .if1 .job) (join-of r .if1 .small)) (sym (add-one (place r)))
+          (outer-next _ _ (given b) _ _ _ _ _ _ _ _ (v .inv .1) (within r) _ _ _ _ _ (ready (join-of r)) need (c .raising-test .left)),
     )
 
 -- ---- After the loops
@@ -387,7 +423,7 @@ returns c =
     let t = l .before in
     let b = begin t in
     ⊎-elim
-    (λ w. absurd (true≢false (sym (w .3 ∙ t .growing .inv .1) ∙ not-true (l .growing-test .found) (c .before .if4 .taken))))
+    (λ w. absurd (true≢false (sym (w .3 ∙ t .growing .inv .1) ∙ not-true (l .growing-test .found) (c .before .if5 .taken))))
     (λ w.
     let r : Raise = record {
       before = record {
@@ -400,7 +436,7 @@ returns c =
       raising = w .4;
     } in
     c .no-plan .ensures ∙ ap (stated (hyperperiod (held-jobs b)))
-    (sym (step-none _ _ (given b) _ _ _ _ _ _ _ _ (r .raising .inv .1) (within r) (asked r) (w .5 .taken) (w .6 .taken))))
+    (sym (step-none _ _ (given b) _ _ _ _ _ _ _ _ (r .raising .inv .1) (within r) (w .5 .taken) (w .6 .taken))))
     (l .growing-test .came)
 
 returns-2 : tie.Need-returns-2 Inv-raising μ-raising Inv-growing μ-growing
@@ -413,9 +449,9 @@ returns-2 c =
     (λ w.
     let last : g .i ≡ min (b .args .machine .processors) (length (held-jobs b)) = omega (arith, w .0 .left, g .inv .0, steps-are t) in
     ap₂ (λ (q : List ℕ) (n : ℕ). record { verdict = SomePlan; hyperperiod = b .args .all .hyperperiod; raises = n; levels = q }) (w .1) (w .2)
-    ∙ finished _ _ (given b) _ _ _ _ _ _ (subst (Outer (b .args .machine) (held-jobs b) (g .levels) (g .above) (g .raises) (g .supply) (g .taken) (g .job)) last (g .inv .2))
+    ∙ finished _ _ (given b) _ _ _ _ _ _ _ (subst (Outer (b .args .machine) (held-jobs b) (g .levels) (g .above) (g .raises) (g .supply) (g .taken) (g .job) (g .small)) last (g .inv .2))
     _ (ticks-are b))
-    (λ w. absurd (true≢false (sym (not-false (l .growing-test .found) (c .if4 .left)) ∙ w .9)))
+    (λ w. absurd (true≢false (sym (not-false (l .growing-test .found) (c .if5 .left)) ∙ w .9)))
     (l .growing-test .came)
 
 pub grow-spec : {M : Type 1} → statement M
@@ -436,13 +472,14 @@ grow-spec =
     none-taken-requires
     growing-holds
     add-first
-    cast-supply
-    cast-supply-2
-    mul-supply
+    cast-least
+    cast-least-2
+    mul-least
     add-supply
     next-job-requires
     work-of-requires
     add-taken
+    mul-small
     mul-need
     array-read-p
     raising-holds
