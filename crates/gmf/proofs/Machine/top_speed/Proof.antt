@@ -1,5 +1,6 @@
 -- `gmf::Machine::top_speed` meets its contract.
-use Prim.Native.Nat.{_+_, _-_, _*_, _≤_}
+use Prim.Native.Nat.{_-_, _*_, _≤_}
+use native.Mathlib.Nat.{mul-le-mul}
 use native.Mathlib.Omega.{arith}
 use mathlib.Core.Path.{refl}
 use borrow.Author.Needs.{needs}
@@ -7,9 +8,15 @@ use Rattle.gmf.specs.Machine.{speed, top}
 use Rattle.gmf.proofs.Machine.top_speed.Statement.{statement}
 use Rattle.gmf.proofs.Machine.top_speed.Tie as tie
 
-within : (c : tie.Start) → c .args .self .lowest + (c .args .self .levels - 1) * c .args .self .step ≤ 256
-unfolding top speed
-within c = c .pre .top-speed
+-- Whichever of the machine's numbers are multiplied, the product fits.
+products : (c : tie.Start) →
+    let M = c .args .self in
+    ((M .levels - 1) * M .step ≤ 31 * 255) × ((M .levels - 1) * M .levels ≤ 31 * 32) × ((M .step - 1) * M .step ≤ 254 * 255)
+products c =
+    let M = c .args .self in
+    let l : M .levels - 1 ≤ 31 = omega (arith, c .pre .levels .1) in
+    let d : M .step - 1 ≤ 254 = omega (arith, c .pre .step .1) in
+    (mul-le-mul l (c .pre .step .1), mul-le-mul l (c .pre .levels .1), mul-le-mul d (c .pre .step .1))
 
 sub-result : tie.Need-sub-result
 sub-result c = search needs
@@ -21,10 +28,10 @@ cast-result-2 : tie.Need-cast-result-2
 cast-result-2 c = search needs
 
 mul-result : tie.Need-mul-result
-mul-result c = omega (arith, within (c .before .before))
+mul-result c = omega (arith, products (c .before .before))
 
 add-result : tie.Need-add-result
-add-result c = omega (arith, within (c .before .before .before))
+add-result c = omega (arith, products (c .before .before .before), c .before .before .before .pre .lowest .1)
 
 returns : tie.Need-returns
 unfolding top speed
