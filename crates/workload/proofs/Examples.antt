@@ -4,7 +4,7 @@ use Rattle.number.specs.Divisors.{euclid, gcd, lcm}
 use Rattle.gmf.specs.Jobs.{window, hyperperiod, work, works}
 use Rattle.gmf.specs.Trials.{jobsFrom}
 use Rattle.workload.specs.Load.{limited, costsFit, totals, loadOf}
-use Rattle.workload.specs.Turns.{comesBefore, noneTaken, idle, nextAfter, turn}
+use Rattle.workload.specs.Turns.{hasMore, comesBefore, noneTaken, idle, nextOf, nextAfter, turn}
 use Rattle.workload.specs.Claims.{LoadTrials, TurnTrial}
 
 pub load-trials : LoadTrials
@@ -21,5 +21,5 @@ load-trials = record {
 }
 
 pub turn-trial : TurnTrial
-unfolding window comesBefore noneTaken idle nextAfter turn
+unfolding window hasMore comesBefore noneTaken idle nextOf nextAfter turn
 turn-trial = refl

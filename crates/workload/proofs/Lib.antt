@@ -3,6 +3,7 @@ pub mod Suffixes
 pub mod Loads
 pub mod Verdicts
 pub mod Order
+pub mod Shares
 pub mod Sorted
 pub mod Turns
 pub mod Results

@@ -1,5 +1,5 @@
 -- `workload::load_of` meets its contract: the totals are those of the jobs from j on.
-use Prim.Native.Nat.{ℕ, suc, _*_, _-_, _≤_, _<_}
+use Prim.Native.Nat.{ℕ, _-_, _≤_}
 use native.Mathlib.Omega.{arith}
 use mathlib.Core.Path.{_≡_, refl, sym, ap, subst, _∙_}
 use mathlib.Core.List.{List, _∷_}
@@ -42,7 +42,7 @@ in-range c j = every-drop JobInRange j _ (c .before .pre .1)
 
 loop-holds : tie.Need-loop-holds Inv-loop μ-loop
 unfolding totals hyperperiod works costsFit
-loop-holds c = rw (suffix-none none (c .args .held) (c .args .t1) (long c)) (omega arith, refl, omega arith)
+loop-holds c = rw (suffix-none none (c .args .held) (c .args .t1) (long c) (c .args .held) (omega arith)) (omega arith, refl, omega arith)
 
 sub-i : tie.Need-sub-i Inv-loop μ-loop
 sub-i c = omega arith
@@ -57,7 +57,7 @@ array-copy-out-with c = omega arith
 more : (c : tie.In-loop Inv-loop μ-loop) → rest (c .before) (c .before .loop .i - 1) ≡ job-at (c .before) ∷ rest (c .before) (c .before .loop .i)
 more c =
     let o = c .before in
-    suffix-more none (o .before .args .held) (o .before .args .t1) (long (o .before)) (o .loop .i) (omega arith) (omega arith)
+    suffix-more none (o .before .args .held) (o .before .args .t1) (long (o .before)) (o .loop .i - 1) (o .loop .i) (omega arith) (omega arith)
 
 with-requires : tie.Need-with-requires Inv-loop μ-loop
 with-requires c κs =
