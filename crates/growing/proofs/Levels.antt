@@ -1,17 +1,17 @@
 -- The levels while a plan grows, and how many processors are above each level.
-use Prim.Native.Nat.{ℕ, zero, suc, _+_, _-_, _*_, _≤_, _<_, zero-le}
+use Prim.Native.Nat.{ℕ, zero, suc, _+_, _-_, _≤_, _<_, zero-le}
 use native.Mathlib.Nat.{not-suc-le-zero}
 use native.Mathlib.Decide.{ℕ-discrete, decLt}
 use native.Mathlib.Numerals.{add-one}
 use native.Mathlib.Omega.{arith}
-use mathlib.Core.Path.{_≡_, refl, sym, ap, subst, _∙_}
+use mathlib.Core.Path.{_≡_, refl, sym, ap, _∙_}
 use mathlib.Core.List.{List, [], _∷_, _++_}
-use lib.ListN.{length, getD, take, drop, set, replicate, length-set, length-drop, take-append-drop, List·getD-eq-default}
+use lib.ListN.{length, take, drop, set, replicate, length-set, length-drop, take-append-drop, List·getD-eq-default}
 use lib.Seq.{getD-set-same, getD-set-other, getD-take, getD-drop, take-set-lt, length-take-le}
 use Rattle.gmf.specs.Capacity.{level}
 use Rattle.gmf.specs.Growing.{slowest, raise}
 use Rattle.gmf.specs.Claims.{IsSlowest}
-use Rattle.gmf.proofs.Sums.{Falling, first, first-suc, first-past, level-replicate}
+use Rattle.gmf.proofs.Sums.{Falling, level-replicate}
 use Rattle.gmf.proofs.Raise.{finds-slowest}
 
 -- What holds at the place p of what is stored there, and elsewhere of what stood there, holds at every place.

@@ -6,7 +6,7 @@ use native.Mathlib.Omega.{arith}
 use mathlib.Core.Path.{_≡_, refl, sym, ap, ap₂, _∙_}
 use mathlib.Core.Logic.{inl, ⊎-elim}
 use mathlib.Core.Bool.{Bool, false}
-use mathlib.Core.List.{List, [], _∷_}
+use mathlib.Core.List.{List, _∷_}
 use lib.ListN.{length, take, set, replicate}
 use Rattle.gmf.specs.declared.Machine.{Machine}
 use Rattle.gmf.specs.declared.Job.{Job}

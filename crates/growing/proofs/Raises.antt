@@ -1,18 +1,18 @@
 -- The loops of growing: what they keep of levels, raises and supply, and how their turns follow the steps of the definition.
-use Prim.Native.Nat.{ℕ, zero, suc, _+_, _-_, _*_, _≤_, _<_, min}
-use native.Mathlib.Nat.{le-trans, mul-le-mul-left, mul-le-mul-right}
+use Prim.Native.Nat.{ℕ, suc, _+_, _-_, _*_, _≤_, _<_}
+use native.Mathlib.Nat.{mul-le-mul-left, mul-le-mul-right}
 use native.Mathlib.Numerals.{add-one}
 use native.Mathlib.Omega.{arith}
 use mathlib.Core.Path.{_≡_, refl, sym, ap, ap₂, _∙_}
 use mathlib.Core.Bool.{true, false}
-use mathlib.Core.List.{List, [], _∷_}
-use lib.ListN.{length, take, set, replicate}
+use mathlib.Core.List.{List}
+use lib.ListN.{take, set, replicate}
 use lib.Seq.{take-set-lt}
 use borrow.Author.Tests.{lt-leb}
 use Rattle.gmf.specs.declared.Machine.{Machine}
 use Rattle.gmf.specs.Machine.{InRange, speed, top}
-use Rattle.gmf.specs.Capacity.{sum, level, capacity}
-use Rattle.gmf.specs.Growing.{Growth, Grown, NoPlan, raise, demand, holds, step}
+use Rattle.gmf.specs.Capacity.{level, capacity}
+use Rattle.gmf.specs.Growing.{Grown, NoPlan, demand, holds, step}
 use Rattle.gmf.proofs.Sums.{falls, first, first-suc, first-past, first-at-most}
 use Rattle.gmf.proofs.Capacity.{capacity-sum, le-holds}
 use Rattle.gmf.proofs.Steps.{step-stops, step-fails, step-raises}

@@ -1,5 +1,5 @@
 -- The claims of the plan that is returned, proved.
-use Prim.Native.Nat.{ℕ, _≤_, _<_, _-_}
+use Prim.Native.Nat.{ℕ, _≤_, _-_}
 use native.Mathlib.Decide.{decLe}
 use native.Mathlib.Omega.{arith}
 use mathlib.Core.Path.{_≡_, refl, sym, ap, subst, _∙_}
@@ -24,7 +24,7 @@ use Rattle.workload.specs.declared.Verdict.the-variants as verdict
 use Rattle.workload.specs.Claims.{Tells}
 use Rattle.growing.specs.declared.Plan.{Plan}
 use Rattle.growing.specs.Plan.{without, stated, planned}
-use Rattle.growing.specs.Claims.{Filed, Plans, PlanTrials, Planning}
+use Rattle.growing.specs.Claims.{Filed, Answers, PlanTrials, Planning}
 use Rattle.growing.proofs.Plans.{planned-within, planned-above}
 
 isSome : Verdict → Bool
@@ -51,7 +51,7 @@ module _ (M : Machine) (in-range : InRange M) (jobs : List Job) where
       ap (λ (n : ℕ). take n (plan ++ replicate (32 - length plan) 0)) (sym (l .is-plan .size)) ∙ take-append-seam plan (replicate (32 - length plan) 0) in (
         (h, (plan, l .is-plan, l .passing)),
         λ _. record {
-          cycle = refl;
+          in-hyperperiod = refl;
           least = subst (λ (q : List ℕ). Least M (hyperperiod jobs) (works jobs) q raises) (sym same) l;
           cheapest = subst (λ (q : List ℕ). (table : List ℕ) → length table ≡ M .levels → Convex table
               → (other : List ℕ) → IsPlan M other → PassesFor M jobs other → total table q ≤ total table other) (sym same)
@@ -70,12 +70,12 @@ module _ (M : Machine) (in-range : InRange M) (jobs : List Job) where
           subst (Claimed M jobs) (sym (planned-above M jobs (omega arith)))
           (unfold without Tells isSome in (omega arith, none-filed verdict.TooLong refl))
 
-  plans : Plans M jobs
-  plans = record { tells = all .0; filed = all .1 }
+  answers : Answers M jobs
+  answers = record { tells = all .0; filed = all .1 }
 
 trials : PlanTrials
 unfolding euclid gcd lcm speed top window hyperperiod work works insert sortDescending largest capacity slowest raise demand holds raisesLeft raiseWhileFails step steps growing planOf machine quarters jobsFrom without stated planned
 trials = record { sheet = refl; no-plan = refl; too-long = refl }
 
 pub planning : Planning
-planning = record { plans = plans; trials = trials }
+planning = record { answers = answers; trials = trials }

@@ -1,7 +1,7 @@
 -- What is proved of the plan that is returned: `Planning` is all of it. Its proof is proofs/Results.antt.
-use Prim.Native.Nat.{ℕ, _≤_, _<_}
+use Prim.Native.Nat.{ℕ, _≤_}
 use mathlib.Core.Path.{_≡_}
-use mathlib.Core.List.{List, [], _∷_, _++_}
+use mathlib.Core.List.{List, [], _∷_}
 use lib.ListN.{length, take, replicate}
 use Rattle.gmf.specs.declared.Machine.{Machine}
 use Rattle.gmf.specs.declared.Job.{Job}
@@ -24,13 +24,13 @@ levelsOf M plan = take (M .processors) (plan .levels)
 -- What a plan that is returned is: the least that passes, in the jobs' own hyperperiod, and the cheapest under every table of L numbers
 -- that never falls and whose rises never shrink.
 pub record Filed (M : Machine) (jobs : List Job) (plan : Plan) : Type 0 where
-  pub cycle : plan .hyperperiod ≡ hyperperiod jobs
+  pub in-hyperperiod : plan .hyperperiod ≡ hyperperiod jobs
   pub least : Least M (hyperperiod jobs) (works jobs) (levelsOf M plan) (plan .raises)
   pub cheapest : (table : List ℕ) → length table ≡ M .levels → Convex table
       → (other : List ℕ) → IsPlan M other → PassesFor M jobs other → total table (levelsOf M plan) ≤ total table other
 
 -- For every machine in range and every list of jobs: the verdict tells whether a plan passes, and where one does the plan is filed.
-pub record Plans (M : Machine) (jobs : List Job) : Type 0 where
+pub record Answers (M : Machine) (jobs : List Job) : Type 0 where
   pub tells : Tells M jobs (planned M jobs .verdict)
   pub filed : planned M jobs .verdict ≡ SomePlan → Filed M jobs (planned M jobs)
 
@@ -42,5 +42,5 @@ pub record PlanTrials : Type 0 where
   pub too-long : planned (quarters 4) (jobsFrom 1 ((1, 4096) ∷ (1, 4097) ∷ [])) ≡ without verdict.TooLong
 
 pub record Planning : Type 0 where
-  pub plans : (M : Machine) → InRange M → (jobs : List Job) → Plans M jobs
+  pub answers : (M : Machine) → InRange M → (jobs : List Job) → Answers M jobs
   pub trials : PlanTrials

@@ -1,21 +1,21 @@
 -- The load of a list of jobs with one job more, in another order, and its bounds.
-use Prim.Native.Nat.{ℕ, suc, _+_, _*_, _/_, _%_, _≤_, _<_, _∣_}
-use native.Mathlib.Nat.{le-of-dvd, dvd-trans, dvd-antisymm, dvd-of-mod-eq-zero, div-mul-cancel, div-self, div-le-self, mul-div-cancel, mul-div-cancel-left, mul-le-mul, mul-le-mul-right, le-trans}
+use Prim.Native.Nat.{ℕ, _+_, _*_, _/_, _%_, _≤_, _<_, _∣_}
+use native.Mathlib.Nat.{le-of-dvd, dvd-of-mod-eq-zero, div-mul-cancel, div-self, div-le-self, mul-div-cancel-left, mul-le-mul, mul-le-mul-right, le-trans}
 use native.Mathlib.Decide.{decLe}
 use native.Mathlib.Omega.{arith}
-use mathlib.Core.Path.{_≡_, refl, ap, ap₂, sym, _∙_}
-use mathlib.Core.Bool.{Bool, true, false, false≢true, _&&_, and-comm, and-assoc}
-use mathlib.Core.List.{List, [], _∷_, _++_, map, map-append}
+use mathlib.Core.Path.{_≡_, refl, ap, sym, _∙_}
+use mathlib.Core.Bool.{Bool, true, false, false≢true, _&&_, and-comm}
+use mathlib.Core.List.{List, [], _∷_, _++_, map}
 use lib.Dec.{leb}
 use lib.ListN.{length, drop}
-use borrow.Author.Tests.{le-leb, lt-leb, leb-true, leb-false}
+use borrow.Author.Tests.{le-leb, lt-leb}
 use Rattle.number.specs.Divisors.{gcd, lcm}
 use Rattle.number.proofs.Laws.{gcd-step, gcd-swap, gcd-pos, lcm-is, lcm-other, lcm-multiple, lcm-swap}
 use Rattle.gmf.specs.declared.Job.{Job}
 use Rattle.gmf.specs.Jobs.{JobInRange, window, hyperperiod, hyperperiodLimit, work, works, Every}
 use Rattle.gmf.specs.Capacity.{sum}
 use Rattle.gmf.specs.Claims.{PositiveWindows}
-use Rattle.gmf.proofs.Sums.{sum-place, sum-scale}
+use Rattle.gmf.proofs.Sums.{sum-scale}
 use Rattle.gmf.proofs.Hyperperiod.{hyperperiod-pos, hyperperiod-multiple, hyperperiod-least, works-scale}
 use Rattle.workload.specs.declared.Totals.{Totals}
 use Rattle.workload.specs.declared.Load.{Load}

@@ -12,7 +12,7 @@ use Rattle.gmf.specs.declared.Job.{Job}
 use Rattle.gmf.specs.Machine.{InRange, speed, top}
 use Rattle.gmf.specs.Jobs.{Every, window, hyperperiod, hyperperiodLimit, works}
 use Rattle.gmf.specs.Capacity.{sum}
-use Rattle.gmf.specs.Claims.{PositiveWindows, Feasible, Fits, NonePasses}
+use Rattle.gmf.specs.Claims.{PositiveWindows, Feasible, NonePasses}
 use Rattle.gmf.proofs.Sums.{by-test}
 use Rattle.gmf.proofs.Feasible.{feasible-iff-fits}
 use Rattle.workload.specs.declared.Load.{Load}

@@ -1,6 +1,6 @@
 -- `growing::grow` meets its contract.
 use Prim.Native.Nat.{ℕ, suc, _+_, _*_, _-_, _<_, _≤_, min}
-use native.Mathlib.Nat.{mul-le-mul, mul-le-mul-right, le-trans}
+use native.Mathlib.Nat.{mul-le-mul, le-trans}
 use native.Mathlib.Numerals.{add-one}
 use native.Mathlib.Omega.{arith}
 use mathlib.Core.Path.{_≡_, refl, sym, ap, ap₂, subst, _∙_}
@@ -10,17 +10,14 @@ use mathlib.Core.Logic.{⊎-elim}
 use borrow.Author.Needs.{needs}
 use borrow.Author.Tests.{not-true, not-false}
 use lib.Dec.{leb}
-use lib.ListN.{length, getD, take, set, replicate}
+use lib.ListN.{length, take, set}
 use lib.Seq.{length-take-le}
 use Rattle.gmf.specs.declared.Job.{Job}
-use Rattle.gmf.specs.Machine.{top}
-use Rattle.gmf.specs.Jobs.{JobInRange, hyperperiod, hyperperiodLimit, work, works}
-use Rattle.gmf.specs.Capacity.{sum, largest, level}
-use Rattle.gmf.specs.Growing.{demand, planOf}
-use Rattle.gmf.proofs.Largest.{largest-some}
+use Rattle.gmf.specs.Jobs.{hyperperiod, hyperperiodLimit, work, works}
+use Rattle.gmf.specs.Capacity.{sum}
+use Rattle.gmf.specs.Growing.{demand}
 use Rattle.workload.specs.Load.{totals}
 use Rattle.workload.specs.declared.Verdict.the-variants.{SomePlan}
-use Rattle.workload.proofs.Turns.{turn-every}
 use Rattle.growing.specs.Plan.{stated}
 use Rattle.growing.proofs.Raises.{Grows}
 use Rattle.growing.proofs.Works.{Given, Told, Asks, Ready, ready-same, work-most, next-range, work-more-most, ready-taken, ready-small, ready-last}

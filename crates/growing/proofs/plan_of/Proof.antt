@@ -1,5 +1,5 @@
 -- `growing::plan_of` meets its contract.
-use mathlib.Core.Path.{sym, ap, _∙_}
+use mathlib.Core.Path.{sym, _∙_}
 use borrow.Author.Needs.{needs}
 use lib.ListN.{take}
 use Rattle.workload.proofs.Loads.{says-within, says-too-long}

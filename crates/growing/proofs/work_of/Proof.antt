@@ -1,8 +1,8 @@
 -- `growing::work_of` meets its contract.
-use Prim.Native.Nat.{ℕ, _*_, _/_, _≤_, _<_}
+use Prim.Native.Nat.{ℕ, _*_, _/_, _≤_}
 use mir.Val.{Fits}
 use mir.Syntax.{w32}
-use native.Mathlib.Nat.{mul-le-mul, div-le-self, le-trans}
+use native.Mathlib.Nat.{mul-le-mul, div-le-self}
 use native.Mathlib.Omega.{arith}
 use mathlib.Core.Path.{ap}
 use borrow.Author.Needs.{needs}

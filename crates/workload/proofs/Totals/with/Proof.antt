@@ -1,18 +1,15 @@
 -- `workload::Totals::with` meets its contract.
-use Prim.Native.Nat.{ℕ, _+_, _*_, _/_, _%_, _≤_, _<_}
-use native.Mathlib.Nat.{div-le-self, mul-le-mul, mul-le-mul-left, mul-le-mul-right, le-trans}
+use Prim.Native.Nat.{ℕ, _*_, _/_, _≤_, _<_}
+use native.Mathlib.Nat.{div-le-self, mul-le-mul, mul-le-mul-right}
 use native.Mathlib.Omega.{arith}
-use mathlib.Core.Path.{_≡_, refl, ap, sym, subst, _∙_}
+use mathlib.Core.Path.{_≡_, ap, sym, _∙_}
 use mathlib.Core.Logic.{⊎-elim}
-use mathlib.Core.Bool.{true, false, _&&_}
+use mathlib.Core.Bool.{_&&_}
 use lib.Dec.{leb}
 use borrow.Author.Needs.{needs}
-use borrow.Author.Tests.{le-leb, lt-leb}
 use Rattle.number.specs.Divisors.{gcd}
-use Rattle.gmf.specs.declared.Job.{Job}
 use Rattle.gmf.specs.Jobs.{window}
 use Rattle.workload.specs.declared.Totals.{Totals}
-use Rattle.workload.specs.Load.{withJob}
 use Rattle.workload.proofs.Loads.{window-pos, common-pos, with-same, with-longer, with-too-long, share-bound, factor-bound}
 use Rattle.workload.proofs.Totals.with.Statement.{statement}
 use Rattle.workload.proofs.Totals.with.Tie as tie
