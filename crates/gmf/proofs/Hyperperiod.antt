@@ -1,12 +1,12 @@
 -- The hyperperiod of a list of jobs, and their works in it and in its multiples.
-use Prim.Native.Nat.{ℕ, _*_, _/_, _<_, _∣_}
+use Prim.Native.Nat.{ℕ, _*_, _/_, _≤_, _<_, _∣_}
 use native.Mathlib.Nat.{dvd-trans, one-dvd, div-mul-cancel, mul-div-assoc, mul-assoc, mul-left-comm}
 use native.Mathlib.Omega.{arith}
 use mathlib.Core.Path.{_≡_, refl, ap, ap₂, _∙_}
 use mathlib.Core.List.{List, [], _∷_, _++_, map}
 use Rattle.number.proofs.Laws.{lcm-is, lcm-pos}
 use Rattle.gmf.specs.declared.Job.{Job}
-use Rattle.gmf.specs.Jobs.{window, hyperperiod, work, Every}
+use Rattle.gmf.specs.Jobs.{JobInRange, window, hyperperiod, work, Every}
 use Rattle.gmf.specs.Claims.{PositiveWindows, LeastCommon}
 
 -- ---- Every
@@ -23,6 +23,15 @@ every-both P Q R f (job ∷ jobs) (p, h) (q, t) = (f job p q, every-both P Q R f
 pub every-fewer : (P : Job → Type 0) (before after : List Job) (job : Job) → Every P (before ++ job ∷ after) → Every P (before ++ after)
 every-fewer P [] after job (p, h) = h
 every-fewer P (x ∷ xs) after job (p, h) = (p, every-fewer P xs after job h)
+
+-- ---- Jobs in range
+
+pub window-range : (job : Job) → JobInRange job → (0 < window job) × (window job ≤ 65535)
+unfolding window
+window-range job r = r .period
+
+pub in-range-positive : (jobs : List Job) → Every JobInRange jobs → PositiveWindows jobs
+in-range-positive = every-map JobInRange (λ job. 0 < window job) (λ job r. window-range job r .0)
 
 -- ---- The least common multiple
 

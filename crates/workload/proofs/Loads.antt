@@ -16,21 +16,21 @@ use Rattle.gmf.specs.Jobs.{JobInRange, window, hyperperiod, hyperperiodLimit, w
 use Rattle.gmf.specs.Capacity.{sum}
 use Rattle.gmf.specs.Claims.{PositiveWindows}
 use Rattle.gmf.proofs.Sums.{sum-scale}
-use Rattle.gmf.proofs.Hyperperiod.{hyperperiod-pos, hyperperiod-multiple, hyperperiod-least, works-scale}
+use Rattle.gmf.proofs.Hyperperiod.{window-range, in-range-positive, hyperperiod-pos, hyperperiod-multiple, hyperperiod-least, works-scale}
 use Rattle.workload.specs.declared.Totals.{Totals}
 use Rattle.workload.specs.declared.Load.{Load}
 use Rattle.workload.specs.declared.Load.the-variants.{Within, TooLong}
 use Rattle.workload.specs.Load.{limited, costsFit, totals, loadOf, moreTotals, withJob}
 use Rattle.workload.specs.Claims.{LoadRule}
-use Rattle.workload.proofs.Suffixes.{every-drop, in-range-positive}
+use Rattle.workload.proofs.Suffixes.{every-drop}
 
 -- ---- The limit
 
-pub within-limit : (t : Totals) → t .hyperperiod ≤ hyperperiodLimit → limited t ≡ Within t
+within-limit : (t : Totals) → t .hyperperiod ≤ hyperperiodLimit → limited t ≡ Within t
 unfolding limited
 within-limit t h = rw (le-leb (t .hyperperiod) hyperperiodLimit h, limited)
 
-pub above-limit : (t : Totals) → hyperperiodLimit < t .hyperperiod → limited t ≡ TooLong
+above-limit : (t : Totals) → hyperperiodLimit < t .hyperperiod → limited t ≡ TooLong
 unfolding limited
 above-limit t h = rw (lt-leb (t .hyperperiod) hyperperiodLimit h, limited)
 
@@ -54,7 +54,7 @@ module _ (job : Job) (jobs : List Job) where
       ∙ ap sum (works-scale (longer / H) H jobs (hyperperiod-multiple jobs))
       ∙ sum-scale (longer / H) (map (work H) jobs)
 
-  pub totals-more : totals (job ∷ jobs) ≡ moreTotals (totals jobs) job
+  totals-more : totals (job ∷ jobs) ≡ moreTotals (totals jobs) job
   unfolding totals moreTotals works costsFit hyperperiod
   totals-more =
       ap (λ (w : ℕ). record { hyperperiod = longer; work = work longer job + w; fit = costsFit jobs && leb (job .cost) (window job) }) works-longer
@@ -169,8 +169,7 @@ totals-range t jobs e h few limit =
 -- n is the job's window, d the greatest common divisor of n and the hyperperiod's remainder by it, and f says whether every cost fits.
 module _ (t : Totals) (job : Job) (in-range : JobInRange job) (ticks : 0 < t .hyperperiod) (n : ℕ) (n-is : n ≡ window job) where
   pub window-pos : 0 < n
-  unfolding window
-  window-pos = rw n-is (in-range .period .0)
+  window-pos = rw n-is (window-range job in-range .0)
 
   -- A share of the hyperperiod is at most all of it.
   pub share-bound : (d : ℕ) → job .cost * (t .hyperperiod / d) ≤ 65535 * t .hyperperiod
@@ -190,8 +189,7 @@ module _ (t : Totals) (job : Job) (in-range : JobInRange job) (ticks : 0 < t .hy
     common-pos = rw d-is (gcd-pos n (t .hyperperiod % n) window-pos)
 
     pub factor-bound : n / d ≤ 65535
-    unfolding window
-    factor-bound = le-trans (div-le-self n d) (rw n-is (in-range .period .1))
+    factor-bound = le-trans (div-le-self n d) (rw n-is (window-range job in-range .1))
 
     -- d divides the hyperperiod as well, so that n / d is the factor by which it grows.
     common-is : d ≡ gcd n (t .hyperperiod)

@@ -7,7 +7,7 @@ use native.Mathlib.Omega.{arith}
 use mathlib.Core.Path.{ap}
 use borrow.Author.Needs.{needs}
 use Rattle.gmf.specs.Jobs.{window, work}
-use Rattle.workload.proofs.Order.{window-pos}
+use Rattle.gmf.proofs.Hyperperiod.{window-range}
 use Rattle.growing.proofs.work_of.Statement.{statement}
 use Rattle.growing.proofs.work_of.Tie as tie
 
@@ -21,7 +21,7 @@ cast-result-2 : tie.Need-cast-result-2
 cast-result-2 c = search needs
 
 div-result : tie.Need-div-result
-div-result c = let s = c .before .before in omega (arith, c .window .ensures, window-pos (s .args .job) (s .pre))
+div-result c = let s = c .before .before in omega (arith, c .window .ensures, window-range (s .args .job) (s .pre) .0)
 
 share : (c : tie.After-window) → c .before .before .args .hyperperiod / c .window .result ≤ 4294967295
 share c =

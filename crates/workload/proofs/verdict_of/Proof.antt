@@ -4,7 +4,7 @@ use borrow.Author.Needs.{needs}
 use lib.ListN.{take}
 use Rattle.workload.specs.Load.{judged}
 use Rattle.workload.specs.Claims.{Tells}
-use Rattle.workload.proofs.Suffixes.{in-range-positive}
+use Rattle.gmf.proofs.Hyperperiod.{in-range-positive}
 use Rattle.workload.proofs.Verdicts.{judges}
 use Rattle.workload.proofs.verdict_of.Statement.{statement}
 use Rattle.workload.proofs.verdict_of.Tie as tie

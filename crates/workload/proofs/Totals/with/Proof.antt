@@ -8,7 +8,7 @@ use mathlib.Core.Bool.{_&&_}
 use lib.Dec.{leb}
 use borrow.Author.Needs.{needs}
 use Rattle.number.specs.Divisors.{gcd}
-use Rattle.gmf.specs.Jobs.{window}
+use Rattle.gmf.specs.Jobs.{window, hyperperiodLimit}
 use Rattle.workload.specs.declared.Totals.{Totals}
 use Rattle.workload.proofs.Loads.{window-pos, common-pos, with-same, with-longer, with-too-long, share-bound, factor-bound}
 use Rattle.workload.proofs.Totals.with.Statement.{statement}
@@ -101,7 +101,7 @@ returns-2 c =
     with-too-long (s .args .self) (s .args .job) (s .pre .0) (s .pre .1 .0) _ (window-is j) _ (c .before .gcd .ensures) (c .if3 .taken)
 
 -- The earlier jobs' works stay within their bound: it grows by the same factor.
-scaled : (c : tie.Else3) → start (joined (c .before)) .args .self .work * (joined (c .before) .before .window .result / c .before .gcd .result) ≤ 63 * 65535 * 16777216
+scaled : (c : tie.Else3) → start (joined (c .before)) .args .self .work * (joined (c .before) .before .window .result / c .before .gcd .result) ≤ 63 * 65535 * hyperperiodLimit
 scaled c =
     let s = start (joined (c .before)) in
     let f = joined (c .before) .before .window .result / c .before .gcd .result in
