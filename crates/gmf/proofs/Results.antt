@@ -13,7 +13,7 @@ use Rattle.gmf.proofs.Strict.{only-plan}
 use Rattle.gmf.proofs.Hyperperiod.{least-common}
 use Rattle.gmf.proofs.Retire.{retires}
 use Rattle.gmf.proofs.Feasible.{feasible-iff-fits}
-use Rattle.gmf.proofs.Tables.{cubes-hold, default-table}
+use Rattle.gmf.proofs.Tables.{cubes-hold, default-table, total-padded}
 use Rattle.gmf.proofs.AcceptanceTrials.{trials-hold}
 use Rattle.gmf.proofs.Edges.{range-edges, job-edges, table-edges, fits-edges}
 
@@ -44,6 +44,7 @@ method = record {
   fits-edges = fits-edges;
   cubes = cubes-hold;
   default-table = default-table;
+  total-padded = total-padded;
   trials = trials-hold;
   range-edges = range-edges;
   job-edges = job-edges;

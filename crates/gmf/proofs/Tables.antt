@@ -10,7 +10,7 @@ use lib.Seq.{set-at, append-snoc}
 use Rattle.gmf.specs.declared.Machine.{Machine}
 use Rattle.gmf.specs.Machine.{speed, top}
 use Rattle.gmf.specs.Power.{power, rise, Convex, StrictlyConvex, powerLimit, total, cube, tabulate, cubes, defaultTable}
-use Rattle.gmf.specs.Claims.{Cubes, SpeedTable, DefaultTable}
+use Rattle.gmf.specs.Claims.{TotalPadded, Cubes, SpeedTable, DefaultTable}
 use Rattle.gmf.proofs.Sums.{level-replicate}
 
 pub tabulate-length : (f : ℕ → ℕ) (n : ℕ) → length (tabulate f n) ≡ n
@@ -151,12 +151,12 @@ filled-end M f = f .holding
 
 -- ---- Zeros after a table
 
-pub power-padded : (table : List ℕ) (n j : ℕ) → power (table ++ replicate n 0) j ≡ power table j
+power-padded : (table : List ℕ) (n j : ℕ) → power (table ++ replicate n 0) j ≡ power table j
 power-padded [] n j = omega (arith, level-replicate n 0 j)
 power-padded (x ∷ xs) n zero = refl
 power-padded (x ∷ xs) n (suc j) = power-padded xs n j
 
-pub total-padded : (table : List ℕ) (n : ℕ) (plan : List ℕ) → total (table ++ replicate n 0) plan ≡ total table plan
+pub total-padded : TotalPadded
 unfolding total
 total-padded table n [] = refl
 total-padded table n (j ∷ js) = omega (arith, power-padded table n j, total-padded table n js)

@@ -4,7 +4,7 @@ use mathlib.Core.Path.{_≡_}
 use mathlib.Core.Logic.{_↔_}
 use mathlib.Core.Bool.{true, false}
 use mathlib.Core.List.{List, [], _∷_, _++_}
-use lib.ListN.{length, take}
+use lib.ListN.{length, take, replicate}
 use Rattle.gmf.specs.declared.Machine.{Machine}
 use Rattle.gmf.specs.declared.Job.{Job}
 use Rattle.gmf.specs.Machine.{speed, top}
@@ -195,6 +195,10 @@ pub record SpeedTable (M : Machine) (table : List ℕ) : Type 0 where
 abbrev pub DefaultTable : Type 0
 DefaultTable = (M : Machine) → top M ≤ 256 → SpeedTable M (defaultTable M)
 
+-- Zeros after the numbers of a table have no effect on total power: so a table may be kept in 32 places.
+abbrev pub TotalPadded : Type 0
+TotalPadded = (table : List ℕ) (n : ℕ) (plan : List ℕ) → total (table ++ replicate n 0) plan ≡ total table plan
+
 -- ---- All of it
 
 pub record Method : Type 0 where
@@ -215,6 +219,7 @@ pub record Method : Type 0 where
   pub fits-edges : FitsEdges
   pub cubes : Cubes
   pub default-table : DefaultTable
+  pub total-padded : TotalPadded
   pub trials : Trials
   pub range-edges : RangeEdges
   pub job-edges : JobEdges

@@ -19,7 +19,7 @@ use Rattle.gmf.proofs.Steps.{paper-loop}
 use Rattle.workload.specs.declared.Verdict.the-variants.{SomePlan}
 use Rattle.workload.specs.Turns.{noneTaken}
 use Rattle.growing.specs.declared.Plan.{Plan}
-use Rattle.growing.specs.Plan.{stated}
+use Rattle.growing.specs.Plan.{planFrom}
 use Rattle.growing.proofs.Levels.{Slowest, slowest-begin, slowest-next, slowest-up, plan-padded}
 use Rattle.growing.proofs.Raises.{Grows, grows-begin, grows-join, raises-most, supply-most, grows-raise, turn-stops, turn-fails, turn-raises}
 use Rattle.growing.proofs.Works.{Given, Told, Asks, Ready, works-length, demand-more, told-begin}
@@ -165,10 +165,10 @@ module _ (M : Machine) (jobs : List Job) (given : Given M jobs) where
 
   pub finished : (levels above : List ℕ) (raises supply taken : ℕ) (job : Job) (small : Bool) → Outer M jobs levels above raises supply taken job small (min m (length jobs))
       → (h : ℕ) → h ≡ H
-      → _≡_ {A = Plan} (record { verdict = SomePlan; hyperperiod = h; raises = raises; levels = levels }) (stated H (planOf M jobs))
-  unfolding planOf stated
+      → _≡_ {A = Plan} (record { verdict = SomePlan; hyperperiod = h; raises = raises; levels = levels }) (planFrom H (planOf M jobs))
+  unfolding planOf planFrom
   finished levels above raises supply taken job small o h e =
       let grown : planOf M jobs ≡ Grown (take m levels) raises =
       paper-loop M H ws ∙ ap (λ (n : ℕ). steps M H ws (min m n)) (works-length M jobs given) ∙ o .same in
       let padded = plan-padded m (given .machine .processors .1) (o .grows .levels-are) (omega arith) in
-      ap₂ (λ (t : ℕ) (l : List ℕ). record { verdict = SomePlan; hyperperiod = t; raises = raises; levels = l }) e padded ∙ ap (stated H) (sym grown)
+      ap₂ (λ (t : ℕ) (l : List ℕ). record { verdict = SomePlan; hyperperiod = t; raises = raises; levels = l }) e padded ∙ ap (planFrom H) (sym grown)

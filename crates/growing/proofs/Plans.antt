@@ -8,13 +8,13 @@ use Rattle.gmf.specs.declared.Job.{Job}
 use Rattle.gmf.specs.Jobs.{hyperperiod, hyperperiodLimit}
 use Rattle.gmf.specs.Growing.{planOf}
 use Rattle.workload.specs.declared.Verdict.the-variants.{TooLong}
-use Rattle.growing.specs.Plan.{without, stated, planned}
+use Rattle.growing.specs.Plan.{withoutPlan, planFrom, planned}
 
 module _ (M : Machine) (jobs : List Job) where
-  pub planned-within : hyperperiod jobs ≤ hyperperiodLimit → planned M jobs ≡ stated (hyperperiod jobs) (planOf M jobs)
+  pub planned-within : hyperperiod jobs ≤ hyperperiodLimit → planned M jobs ≡ planFrom (hyperperiod jobs) (planOf M jobs)
   unfolding planned
   planned-within h = rw (le-leb (hyperperiod jobs) hyperperiodLimit h, planned)
 
-  pub planned-above : hyperperiodLimit < hyperperiod jobs → planned M jobs ≡ without TooLong
+  pub planned-above : hyperperiodLimit < hyperperiod jobs → planned M jobs ≡ withoutPlan TooLong
   unfolding planned
   planned-above h = rw (lt-leb (hyperperiod jobs) hyperperiodLimit h, planned)

@@ -59,7 +59,7 @@ module _ (M : Machine) (in-range : InRange M) (H : ℕ) where
     }
 
     module _ (inside : i ≤ M .processors) where
-      pub capacity-is : supply ≡ H * capacity M i (take (M .processors) levels)
+      capacity-is : supply ≡ H * capacity M i (take (M .processors) levels)
       capacity-is =
           rw (capacity-sum M i (take (M .processors) levels) (omega (arith, plan-length (M .processors) (in-range .processors .1) (g .levels-are) inside)))
           (rw (g .count) at (g .supplied))

@@ -1,5 +1,5 @@
 -- The claims of the plan that is returned, proved.
-use Prim.Native.Nat.{ℕ, _≤_, _-_}
+use Prim.Native.Nat.{ℕ, _≤_, _<_, _-_}
 use native.Mathlib.Decide.{decLe}
 use native.Mathlib.Omega.{arith}
 use mathlib.Core.Path.{_≡_, refl, sym, ap, subst, _∙_}
@@ -21,10 +21,12 @@ use Rattle.gmf.proofs.Results.{plans-jobs}
 use Rattle.workload.specs.declared.Verdict.{Verdict}
 use Rattle.workload.specs.declared.Verdict.the-variants.{SomePlan}
 use Rattle.workload.specs.declared.Verdict.the-variants as verdict
+use Rattle.workload.specs.Load.{verdictOn, verdictOf}
 use Rattle.workload.specs.Claims.{Tells}
+use Rattle.workload.proofs.Verdicts.{verdict-within, verdict-above}
 use Rattle.growing.specs.declared.Plan.{Plan}
-use Rattle.growing.specs.Plan.{without, stated, planned}
-use Rattle.growing.specs.Claims.{Filed, Answers, PlanTrials, Planning}
+use Rattle.growing.specs.Plan.{withoutPlan, planFrom, planned}
+use Rattle.growing.specs.Claims.{Returned, Answers, PlanTrials, Planning}
 use Rattle.growing.proofs.Plans.{planned-within, planned-above}
 
 isSome : Verdict → Bool
@@ -34,16 +36,16 @@ isSome verdict.TooLong = false
 
 -- The claims of a plan q.
 abbrev Claimed : Machine → List Job → Plan → Type 0
-Claimed M jobs q = Tells M jobs (q .verdict) × (q .verdict ≡ SomePlan → Filed M jobs q)
+Claimed M jobs q = Tells M jobs (q .verdict) × (q .verdict ≡ SomePlan → Returned M jobs q)
 
 module _ (M : Machine) (in-range : InRange M) (jobs : List Job) where
-  -- What is without a plan is not filed.
-  none-filed : (v : Verdict) → isSome v ≡ false → without v .verdict ≡ SomePlan → Filed M jobs (without v)
-  unfolding without isSome
-  none-filed v n e = absurd (false≢true (sym n ∙ ap isSome e))
+  -- Without a plan nothing is returned as one.
+  none-returned : (v : Verdict) → isSome v ≡ false → withoutPlan v .verdict ≡ SomePlan → Returned M jobs (withoutPlan v)
+  unfolding withoutPlan isSome
+  none-returned v n e = absurd (false≢true (sym n ∙ ap isSome e))
 
-  claimed : (g : Growth) → planOf M jobs ≡ g → hyperperiod jobs ≤ hyperperiodLimit → Claimed M jobs (stated (hyperperiod jobs) g)
-  unfolding stated Tells isSome without
+  claimed : (g : Growth) → planOf M jobs ≡ g → hyperperiod jobs ≤ hyperperiodLimit → Claimed M jobs (planFrom (hyperperiod jobs) g)
+  unfolding planFrom Tells isSome withoutPlan
   claimed (Grown plan raises) e h =
       let p = plans-jobs M (in-range .processors .0) (in-range .levels .0) jobs in
       let l = p .found plan raises e in
@@ -59,7 +61,7 @@ module _ (M : Machine) (in-range : InRange M) (jobs : List Job) where
         },
       )
   claimed NoPlan e h =
-      ((h, plans-jobs M (in-range .processors .0) (in-range .levels .0) jobs .none .0 e), none-filed verdict.NoPlan refl)
+      ((h, plans-jobs M (in-range .processors .0) (in-range .levels .0) jobs .none .0 e), none-returned verdict.NoPlan refl)
 
   all : Claimed M jobs (planned M jobs)
   all = go (decLe (hyperperiod jobs) hyperperiodLimit)
@@ -68,13 +70,28 @@ module _ (M : Machine) (in-range : InRange M) (jobs : List Job) where
       go (yes h) = subst (Claimed M jobs) (sym (planned-within M jobs h)) (claimed (planOf M jobs) refl h)
       go (no h) =
           subst (Claimed M jobs) (sym (planned-above M jobs (omega arith)))
-          (unfold without Tells isSome in (omega arith, none-filed verdict.TooLong refl))
+          (unfold withoutPlan Tells isSome in (omega arith, none-returned verdict.TooLong refl))
+
+  -- One verdict, here and of the load.
+  verdict-same : planned M jobs .verdict ≡ verdictOf M jobs
+  verdict-same = go (decLe (hyperperiod jobs) hyperperiodLimit)
+    where
+      on : (g : Growth) → planFrom (hyperperiod jobs) g .verdict ≡ verdictOn g
+      on (Grown plan raises) = unfold planFrom verdictOn in refl
+      on NoPlan = unfold planFrom withoutPlan verdictOn in refl
+
+      go : Dec (hyperperiod jobs ≤ hyperperiodLimit) → planned M jobs .verdict ≡ verdictOf M jobs
+      go (yes h) =
+          ap (λ q. q .verdict) (planned-within M jobs h) ∙ on (planOf M jobs) ∙ sym (verdict-within M in-range jobs h (planOf M jobs) refl)
+      go (no h) =
+          let t : hyperperiodLimit < hyperperiod jobs = omega arith in
+          ap (λ q. q .verdict) (planned-above M jobs t) ∙ unfold withoutPlan in sym (verdict-above M in-range jobs t)
 
   answers : Answers M jobs
-  answers = record { tells = all .0; filed = all .1 }
+  answers = record { verdict = verdict-same; tells = all .0; plan = all .1 }
 
 trials : PlanTrials
-unfolding euclid gcd lcm speed top window hyperperiod work works insert sortDescending largest capacity slowest raise demand holds raisesLeft raiseWhileFails step steps growing planOf machine quarters jobsFrom without stated planned
+unfolding euclid gcd lcm speed top window hyperperiod work works insert sortDescending largest capacity slowest raise demand holds raisesLeft raiseWhileFails step steps growing planOf machine quarters jobsFrom withoutPlan planFrom planned
 trials = record { sheet = refl; no-plan = refl; too-long = refl }
 
 pub planning : Planning

@@ -113,7 +113,7 @@ module _ (M : Machine) (jobs : List Job) (given : Given M jobs) where
   module _ (i supply taken : ℕ) (job : Job) (small : Bool) (told : Told M jobs taken job small i) (more : suc i < last) where
     -- A job more, where the rest is not small: the next largest work.
     module _ (n : small ≡ false) (job′ : Job) (w : ℕ) (j : job′ ≡ nextAfter job jobs) where
-      pub next-is : job′ ≡ turn jobs (suc i)
+      next-is : job′ ≡ turn jobs (suc i)
       unfolding turn
       next-is = j ∙ ap (λ last. nextAfter last jobs) (told .exact n .1)
 
@@ -121,7 +121,7 @@ module _ (M : Machine) (jobs : List Job) (given : Given M jobs) where
       next-range = subst JobInRange (sym next-is) (turn-every jobs (given .in-range) (given .rising) JobInRange (given .in-range) i (omega arith))
 
       module _ (e : w ≡ work H job′) where
-        pub work-more : taken + w ≡ largest (suc i) ws
+        work-more : taken + w ≡ largest (suc i) ws
         work-more =
             ap₂ _+_ (told .exact n .0) (e ∙ ap (work H) next-is)
             ∙ sym (turn-work jobs (given .in-range) (given .rising) i (omega arith))

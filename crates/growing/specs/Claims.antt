@@ -13,9 +13,10 @@ use Rattle.gmf.specs.Trials.{quarters, jobsFrom}
 use Rattle.gmf.specs.Claims.{Least}
 use Rattle.workload.specs.declared.Verdict.the-variants.{SomePlan}
 use Rattle.workload.specs.declared.Verdict.the-variants as verdict
+use Rattle.workload.specs.Load.{verdictOf}
 use Rattle.workload.specs.Claims.{Tells}
 use Rattle.growing.specs.declared.Plan.{Plan}
-use Rattle.growing.specs.Plan.{without, planned}
+use Rattle.growing.specs.Plan.{withoutPlan, planned}
 
 -- The levels of a machine's processors.
 abbrev pub levelsOf : Machine → Plan → List ℕ
@@ -23,23 +24,25 @@ levelsOf M plan = take (M .processors) (plan .levels)
 
 -- What a plan that is returned is: the least that passes, in the jobs' own hyperperiod, and the cheapest under every table of L numbers
 -- that never falls and whose rises never shrink.
-pub record Filed (M : Machine) (jobs : List Job) (plan : Plan) : Type 0 where
+pub record Returned (M : Machine) (jobs : List Job) (plan : Plan) : Type 0 where
   pub in-hyperperiod : plan .hyperperiod ≡ hyperperiod jobs
   pub least : Least M (hyperperiod jobs) (works jobs) (levelsOf M plan) (plan .raises)
   pub cheapest : (table : List ℕ) → length table ≡ M .levels → Convex table
       → (other : List ℕ) → IsPlan M other → PassesFor M jobs other → total table (levelsOf M plan) ≤ total table other
 
--- For every machine in range and every list of jobs: the verdict tells whether a plan passes, and where one does the plan is filed.
+-- For every machine in range and every list of jobs: the verdict is the one that a load is judged by, it tells whether a plan passes, and
+-- where one does the plan is such.
 pub record Answers (M : Machine) (jobs : List Job) : Type 0 where
+  pub verdict : planned M jobs .verdict ≡ verdictOf M jobs
   pub tells : Tells M jobs (planned M jobs .verdict)
-  pub filed : planned M jobs .verdict ≡ SomePlan → Filed M jobs (planned M jobs)
+  pub plan : planned M jobs .verdict ≡ SomePlan → Returned M jobs (planned M jobs)
 
 -- "m 4, costs 10 9 6 5 1, period 10 …"; with a job 11/10; and with periods that are too long.
 pub record PlanTrials : Type 0 where
   pub sheet : planned (quarters 4) (jobsFrom 1 ((10, 10) ∷ (9, 10) ∷ (6, 10) ∷ (5, 10) ∷ (1, 10) ∷ []))
       ≡ record { verdict = SomePlan; hyperperiod = 10; raises = 9; levels = 3 ∷ 3 ∷ 2 ∷ 1 ∷ replicate 28 0 }
-  pub no-plan : planned (quarters 4) (jobsFrom 1 ((11, 10) ∷ [])) ≡ without verdict.NoPlan
-  pub too-long : planned (quarters 4) (jobsFrom 1 ((1, 4096) ∷ (1, 4097) ∷ [])) ≡ without verdict.TooLong
+  pub no-plan : planned (quarters 4) (jobsFrom 1 ((11, 10) ∷ [])) ≡ withoutPlan verdict.NoPlan
+  pub too-long : planned (quarters 4) (jobsFrom 1 ((1, 4096) ∷ (1, 4097) ∷ [])) ≡ withoutPlan verdict.TooLong
 
 pub record Planning : Type 0 where
   pub answers : (M : Machine) → InRange M → (jobs : List Job) → Answers M jobs

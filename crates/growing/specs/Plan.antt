@@ -13,16 +13,16 @@ use Rattle.workload.specs.declared.Verdict.the-variants as verdict
 use Rattle.growing.specs.declared.Plan.{Plan}
 
 -- No plan, for one reason or the other: zeros.
-unfoldable pub without : Verdict → Plan
-without v = record { verdict = v; hyperperiod = 0; raises = 0; levels = replicate 32 0 }
+unfoldable pub withoutPlan : Verdict → Plan
+withoutPlan v = record { verdict = v; hyperperiod = 0; raises = 0; levels = replicate 32 0 }
 
 -- What growing finds in H ticks: m levels, with zeros after them to 32, and the count of raises.
-unfoldable pub stated : ℕ → Growth → Plan
-stated H (Grown plan raises) =
+unfoldable pub planFrom : ℕ → Growth → Plan
+planFrom H (Grown plan raises) =
     record { verdict = verdict.SomePlan; hyperperiod = H; raises = raises; levels = plan ++ replicate (32 - length plan) 0 }
-stated H NoPlan = without verdict.NoPlan
+planFrom H NoPlan = withoutPlan verdict.NoPlan
 
--- The plan that a machine gives its jobs, where their hyperperiod is within its limit.
+-- The plan that a machine gives its jobs. Refusal 16 is a hyperperiod above its limit, refusal 17 that no plan passes.
 unfoldable pub planned : Machine → List Job → Plan
 planned M jobs =
-    elim (leb (hyperperiod jobs) hyperperiodLimit) [ true ↦ stated (hyperperiod jobs) (planOf M jobs) | false ↦ without verdict.TooLong ]
+    elim (leb (hyperperiod jobs) hyperperiodLimit) [ true ↦ planFrom (hyperperiod jobs) (planOf M jobs) | false ↦ withoutPlan verdict.TooLong ]

@@ -6,7 +6,7 @@ ghost use Rattle.gmf.specs.Machine.{InRange};
 ghost use Rattle.gmf.specs.Jobs.{JobInRange, ByRisingId, Every, hyperperiod, hyperperiodLimit, work};
 ghost use Rattle.gmf.specs.Growing.{planOf};
 ghost use Rattle.workload.specs.Load.{totals};
-ghost use Rattle.growing.specs.Plan.{stated, planned, without};
+ghost use Rattle.growing.specs.Plan.{planFrom, planned, withoutPlan};
 use gmf::Job;
 use gmf::Machine;
 use workload::Load;
@@ -26,7 +26,7 @@ pub struct Plan {
 
 // No plan, and why.
 fn no_plan(verdict: Verdict) -> Plan
-    ensures { λ r. ⌜ r ≡ without verdict ⌝ }
+    ensures { λ r. ⌜ r ≡ withoutPlan verdict ⌝ }
 {
     Plan {
         verdict,
@@ -55,57 +55,59 @@ fn work_of(job: Job, hyperperiod: u32) -> u64
     job.cost as u64 * (hyperperiod / job.window() as u32) as u64
 }
 
-// Grows the plan. Both sides of a test are multiplied by H × Q, as in the definition.
+// Grows the plan: step by step one processor more joins, and the slowest of those that have joined is raised while the test fails. Both
+// sides of a test stand multiplied by H × Q, as in the definition.
 fn grow(machine: Machine, jobs: [Job; 64], held: usize, all: Totals) -> Plan
     requires { ⌜ InRange machine × (held ≤ 64) × Every JobInRange (take held jobs) × ByRisingId (take held jobs) ⌝ }
     requires { ⌜ (hyperperiod (take held jobs) ≤ hyperperiodLimit) × (all ≡ totals (take held jobs)) ⌝ }
-    ensures { λ r. ⌜ r ≡ stated (hyperperiod (take held jobs)) (planOf machine (take held jobs)) ⌝ }
+    ensures { λ r. ⌜ r ≡ planFrom (hyperperiod (take held jobs)) (planOf machine (take held jobs)) ⌝ }
 {
     let hyperperiod = all.hyperperiod;
-    let top = machine.levels - 1;
+    let top_level = machine.levels - 1;
     let top_speed = machine.top_speed() as u64;
     // what one level more gets done in the hyperperiod
-    let step = hyperperiod as u64 * machine.step as u64;
+    let gain = hyperperiod as u64 * machine.step as u64;
     let steps = steps_of(machine.processors, held);
     let mut levels = [0u8; 32];
-    // how many processors are above each level: the first of those at level v is the one at the place above[v]
+    // how many processors are above each level: levels never rise, so above[v] is the place of the first processor at level v
     let mut above = [0usize; 32];
     let mut raises: u16 = 0;
     let mut found = true;
     let mut supply: u64 = 0;
     let mut taken: u64 = 0;
     let mut job = none_taken();
-    // whether the works that are left are small: no test before the last fails for them
+    // whether the works that are left are small: a processor at level 0 gets each done, so that no test before the last fails for them
     let mut small = false;
     'growing: for i in 0..steps {
-        let first = i + 1;
-        let least = hyperperiod as u64 * machine.lowest as u64;
-        supply += least;
+        let joined = i + 1;
+        // what the processor that joins gets done at level 0
+        let base = hyperperiod as u64 * machine.lowest as u64;
+        supply += base;
         let mut demand = all.work;
-        if first < steps {
+        if joined < steps {
             if !small {
                 job = next_job(jobs, held, job);
                 let work = work_of(job, hyperperiod);
                 taken += work;
-                small = top_speed * work <= least;
+                small = top_speed * work <= base;
             }
             demand = taken;
         }
         let need = top_speed * demand;
-        // the slowest level of the first processors, and the lowest-numbered of those at it
+        // the slowest level of the processors that have joined, and the lowest-numbered of those at it
         let mut v: u8 = 0;
         let mut p = above[0];
         'raising: while supply < need {
-            if v == top {
+            if v == top_level {
                 found = false;
                 break 'growing;
             }
             levels[p] = v + 1;
             raises += 1;
-            supply += step;
+            supply += gain;
             p += 1;
             above[v as usize] = p;
-            if p == first {
+            if p == joined {
                 v += 1;
                 p = above[v as usize];
             }

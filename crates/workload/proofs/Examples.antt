@@ -14,6 +14,7 @@ load-trials = record {
   long = refl;
   too-long = refl;
   longest = refl;
+  limit = refl;
   just-too-long = refl;
   none = refl;
   full = refl;

@@ -136,22 +136,16 @@ unfolding loadOf totals works
 load-place job before after =
     rw (hyperperiod-place job before after, costsFit-place job before after, sum-works-place (hyperperiod (job ∷ (before ++ after))) job before after)
 
-pub load-rule : LoadRule
-load-rule = record {
-  one-more = load-more;
-  stays-too-long = λ job jobs positive e. load-above (job ∷ jobs) (above-drop 1 (job ∷ jobs) positive (says-too-long jobs e));
-  any-order = load-place;
-}
-
 -- ---- Bounds
 
-work-bound : (H : ℕ) (job : Job) → JobInRange job → work H job ≤ 65535 * H
-unfolding work
-work-bound H job r = mul-le-mul (r .cost .1) (div-le-self H (window job))
+-- A part of the ticks is at most all of them.
+part-bound : (H d : ℕ) (job : Job) → JobInRange job → job .cost * (H / d) ≤ 65535 * H
+part-bound H d job r = mul-le-mul (r .cost .1) (div-le-self H d)
 
 pub works-bound : (H : ℕ) (jobs : List Job) → Every JobInRange jobs → sum (map (work H) jobs) ≤ length jobs * 65535 * H
+unfolding work
 works-bound H [] h = omega arith
-works-bound H (job ∷ jobs) (r, h) = omega (arith, work-bound H job r, works-bound H jobs h)
+works-bound H (job ∷ jobs) (r, h) = omega (arith, part-bound H (window job) job r, works-bound H jobs h)
 
 -- The range in which one job more may be added.
 pub totals-range : (t : Totals) (jobs : List Job) → t ≡ totals jobs → Every JobInRange jobs → length jobs ≤ 63 → hyperperiod jobs ≤ hyperperiodLimit
@@ -164,6 +158,14 @@ totals-range t jobs e h few limit =
       le-trans (works-bound (hyperperiod jobs) jobs h) (mul-le-mul-right (hyperperiod jobs) (mul-le-mul-right 65535 few)),
     )
 
+pub load-rule : LoadRule
+load-rule = record {
+  one-more = load-more;
+  stays-too-long = λ job jobs positive e. load-above (job ∷ jobs) (above-drop 1 (job ∷ jobs) positive (says-too-long jobs e));
+  range = λ jobs h few t e. let w = says-within jobs t e in totals-range t jobs (w .0) h few (w .1);
+  any-order = load-place;
+}
+
 -- ---- One job more, as the code finds it
 
 -- n is the job's window, d the greatest common divisor of n and the hyperperiod's remainder by it, and f says whether every cost fits.
@@ -171,9 +173,8 @@ module _ (t : Totals) (job : Job) (in-range : JobInRange job) (ticks : 0 < t .hy
   pub window-pos : 0 < n
   window-pos = rw n-is (window-range job in-range .0)
 
-  -- A share of the hyperperiod is at most all of it.
   pub share-bound : (d : ℕ) → job .cost * (t .hyperperiod / d) ≤ 65535 * t .hyperperiod
-  share-bound d = mul-le-mul (in-range .cost .1) (div-le-self (t .hyperperiod) d)
+  share-bound d = part-bound (t .hyperperiod) d job in-range
 
   module _ (f : Bool) (f-is : f ≡ (t .fit && leb (job .cost) (window job))) where
     -- Where the window divides the hyperperiod, that stays.

@@ -6,7 +6,7 @@ use mathlib.Core.Path.{_≡_, refl, ap, ap₂, sym, subst, _∙_}
 use mathlib.Core.Bool.{Bool, true, false, false≢true, _&&_}
 use mathlib.Core.List.{List, [], _∷_}
 use lib.Dec.{leb}
-use borrow.Author.Tests.{le-leb, leb-true}
+use borrow.Author.Tests.{le-leb, lt-leb, leb-true}
 use Rattle.gmf.specs.declared.Machine.{Machine}
 use Rattle.gmf.specs.declared.Job.{Job}
 use Rattle.gmf.specs.Machine.{InRange, speed, top}
@@ -14,14 +14,17 @@ use Rattle.gmf.specs.Jobs.{Every, window, hyperperiod, hyperperiodLimit, works}
 use Rattle.gmf.specs.Capacity.{sum}
 use Rattle.gmf.specs.Claims.{PositiveWindows, Feasible, NonePasses}
 use Rattle.gmf.proofs.Sums.{by-test}
+use Rattle.gmf.specs.Growing.{Growth, Grown, planOf}
+use Rattle.gmf.specs.Growing as gmf
 use Rattle.gmf.proofs.Feasible.{feasible-iff-fits}
+use Rattle.gmf.proofs.Results.{plans-jobs}
 use Rattle.workload.specs.declared.Load.{Load}
 use Rattle.workload.specs.declared.Load.the-variants.{Within, TooLong}
 use Rattle.workload.specs.declared.Totals.{Totals}
 use Rattle.workload.specs.declared.Verdict.{Verdict}
 use Rattle.workload.specs.declared.Verdict.the-variants as verdict
 use Rattle.workload.specs.declared.Verdict.the-variants.{SomePlan, NoPlan}
-use Rattle.workload.specs.Load.{costsFit, totals, loadOf, judged}
+use Rattle.workload.specs.Load.{costsFit, totals, loadOf, verdictOn, verdictOf, judged}
 use Rattle.workload.specs.Claims.{Tells, Judges}
 use Rattle.workload.proofs.Loads.{load-within, load-above}
 
@@ -71,8 +74,34 @@ module _ (M : Machine) (in-range : InRange M) (jobs : List Job) (positive : Posi
           (by-test (Tells M jobs) (costsFit jobs && small) SomePlan NoPlan (λ e. (h, fits e)) (λ e. (h, fits-not e)))
       go (no h) = subst (λ l. Tells M jobs (judged (M .processors) l)) (sym (load-above jobs (omega arith))) (omega arith)
 
+-- No other verdict is true.
+module _ (M : Machine) (in-range : InRange M) (jobs : List Job) where
+  pub verdict-within : hyperperiod jobs ≤ hyperperiodLimit → (g : Growth) → planOf M jobs ≡ g → verdictOf M jobs ≡ verdictOn g
+  unfolding verdictOf
+  verdict-within h g e = rw (le-leb (hyperperiod jobs) hyperperiodLimit h, e, verdictOf)
+
+  pub verdict-above : hyperperiodLimit < hyperperiod jobs → verdictOf M jobs ≡ verdict.TooLong
+  unfolding verdictOf
+  verdict-above h = rw (lt-leb (hyperperiod jobs) hyperperiodLimit h, verdictOf)
+
+  some-plan : Feasible M jobs → (g : Growth) → planOf M jobs ≡ g → verdictOn g ≡ SomePlan
+  unfolding verdictOn
+  some-plan f (Grown plan raises) e = refl
+  some-plan (plan, is, p) gmf.NoPlan e =
+      absurd (plans-jobs M (in-range .processors .0) (in-range .levels .0) jobs .none .0 e plan is p)
+
+  told-is : (v : Verdict) → Tells M jobs v → v ≡ verdictOf M jobs
+  unfolding Tells verdictOn
+  told-is SomePlan (h, f) = sym (verdict-within h (planOf M jobs) refl ∙ some-plan f (planOf M jobs) refl)
+  told-is NoPlan (h, none) =
+      sym (verdict-within h gmf.NoPlan (plans-jobs M (in-range .processors .0) (in-range .levels .0) jobs .none .1 none))
+  told-is verdict.TooLong h = sym (verdict-above h)
+
 pub judges : Judges
-judges M in-range jobs positive = judge M in-range jobs positive
+judges M in-range jobs positive =
+    let t = judge M in-range jobs positive in
+    let e = told-is M in-range jobs (judged (M .processors) (loadOf jobs)) t in
+    record { tells = subst (Tells M jobs) e t; by-load = e }
 
 -- ---- A verdict, as the code finds it
 

@@ -4,9 +4,11 @@ use mathlib.Core.Bool.{Bool, true, false, _&&_}
 use mathlib.Core.List.{List, [], _∷_}
 use lib.Dec.{leb}
 use Rattle.number.specs.Divisors.{lcm}
+use Rattle.gmf.specs.declared.Machine.{Machine}
 use Rattle.gmf.specs.declared.Job.{Job}
 use Rattle.gmf.specs.Jobs.{window, hyperperiod, hyperperiodLimit, work, works}
 use Rattle.gmf.specs.Capacity.{sum}
+use Rattle.gmf.specs.Growing.{Growth, Grown, NoPlan, planOf}
 use Rattle.workload.specs.declared.Totals.{Totals}
 use Rattle.workload.specs.declared.Load.{Load}
 use Rattle.workload.specs.declared.Load.the-variants.{Within, TooLong}
@@ -26,10 +28,12 @@ costsFit (job ∷ jobs) = costsFit jobs && leb (job .cost) (window job)
 unfoldable pub totals : List Job → Totals
 totals jobs = record { hyperperiod = hyperperiod jobs; work = sum (works jobs); fit = costsFit jobs }
 
+-- The load of a list of jobs.
 unfoldable pub loadOf : List Job → Load
 loadOf jobs = limited (totals jobs)
 
--- The totals with one job more: in the longer hyperperiod every work is as many times larger as the hyperperiod is.
+-- The totals with one job more: in the longer hyperperiod every work is as many times larger as the hyperperiod is. That these are the
+-- totals of the longer list is `LoadRule`.
 unfoldable pub moreTotals : Totals → Job → Totals
 moreTotals t job =
     let H = lcm (window job) (t .hyperperiod) in
@@ -39,10 +43,20 @@ moreTotals t job =
       fit = t .fit && leb (job .cost) (window job);
     }
 
+-- The load with one job more.
 unfoldable pub withJob : Totals → Job → Load
 withJob t job = limited (moreTotals t job)
 
--- Whether any plan passes on m processors: no cost is above its window, and the works are at most m × H.
+-- What is told of some jobs on a machine by the method itself. Refusal 16: "H with the new job would exceed its limit." Refusal 17: "No
+-- plan passes with the new job."
+unfoldable pub verdictOn : Growth → Verdict
+verdictOn (Grown plan raises) = verdict.SomePlan
+verdictOn NoPlan = verdict.NoPlan
+
+unfoldable pub verdictOf : Machine → List Job → Verdict
+verdictOf M jobs = elim (leb (hyperperiod jobs) hyperperiodLimit) [ true ↦ verdictOn (planOf M jobs) | false ↦ verdict.TooLong ]
+
+-- The same, told by the load: no cost is above its window, and the works are at most m × H. That it is the same is `Judges`.
 unfoldable pub judged : ℕ → Load → Verdict
 judged m (Within t) = elim (t .fit && leb (t .work) (m * t .hyperperiod)) [ true ↦ verdict.SomePlan | false ↦ verdict.NoPlan ]
 judged m TooLong = verdict.TooLong

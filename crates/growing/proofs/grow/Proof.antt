@@ -18,7 +18,7 @@ use Rattle.gmf.specs.Capacity.{sum}
 use Rattle.gmf.specs.Growing.{demand}
 use Rattle.workload.specs.Load.{totals}
 use Rattle.workload.specs.declared.Verdict.the-variants.{SomePlan}
-use Rattle.growing.specs.Plan.{stated}
+use Rattle.growing.specs.Plan.{planFrom}
 use Rattle.growing.proofs.Raises.{Grows}
 use Rattle.growing.proofs.Works.{Given, Told, Asks, Ready, ready-same, work-most, next-range, work-more-most, ready-taken, ready-small, ready-last}
 use Rattle.growing.proofs.Loops.{Outer, Inner, outer-begin, inner-begin, supply-bound, raises-bound, outer-next, step-none, grown-more, inner-next, inner-up, finished}
@@ -102,8 +102,8 @@ inside : (c : tie.In-growing Inv-raising μ-raising Inv-growing μ-growing) → 
 inside c = omega (arith, c .growing-test .taken, steps-are (c .before))
 
 -- What a processor at level 0 gets done.
-least-is : (c : Turn) → begin c .args .all .hyperperiod * begin c .args .machine .lowest ≡ hyperperiod (held-jobs (begin c)) * begin c .args .machine .lowest
-least-is c = ap (λ (h : ℕ). h * begin c .args .machine .lowest) (ticks-are (begin c))
+base-is : (c : Turn) → begin c .args .all .hyperperiod * begin c .args .machine .lowest ≡ hyperperiod (held-jobs (begin c)) * begin c .args .machine .lowest
+base-is c = ap (λ (h : ℕ). h * begin c .args .machine .lowest) (ticks-are (begin c))
 
 -- What test suc i is held against.
 abbrev begun : Turn → ℕ
@@ -126,7 +126,7 @@ ready c =
     (λ w.
     let more : suc (g .i) < limit t = omega (arith, w .0 .taken, steps-are t) in
     let e = w .3 .ensures ∙ ap (λ (h : ℕ). work h (w .2 .result)) (ticks-are b) in
-    let s = ap₂ (λ (q n : ℕ). leb (q * w .3 .result) n) (fast t .top-speed .ensures) (least-is t) in
+    let s = ap₂ (λ (q n : ℕ). leb (q * w .3 .result) n) (fast t .top-speed .ensures) (base-is t) in
     ready-same refl refl (w .5) refl
     (ready-taken _ _ (given b) (g .i) (begun t) _ _ _ (told t more) more (not-true (g .small) (w .1 .taken)) (w .2 .result) (w .3 .result) (w .2 .ensures) e
     (c .if1 .demand) (c .if1 .taken) (c .if1 .small) (omega (arith, w .4)) (omega (arith, w .4, w .7)) (w .6 ∙ s)))
@@ -136,7 +136,7 @@ ready c =
     let now : g .i < limit t = omega arith in
     ready-same refl (w .2) (w .3) (w .4)
     (ready-small _ _ (given b) (g .i) (g .supply) _ _ _ (told t more) more (not-false (g .small) (w .1 .left)) (g .inv .2 .weighed now) (g .inv .2 .tested now)
-    _ (c .if1 .demand) (ap (λ (n : ℕ). g .supply + n) (least-is t)) (omega (arith, w .5))))
+    _ (c .if1 .demand) (ap (λ (n : ℕ). g .supply + n) (base-is t)) (omega (arith, w .5))))
     (λ w.
     let end : suc (g .i) ≡ limit t = omega (arith, w .0 .left, steps-are t, c .before .before .growing-test .taken) in
     ready-last _ _ (given b) _ _ _ _ _ _ end (omega (arith, w .4, work-is b))))
@@ -144,8 +144,8 @@ ready c =
 
 -- ---- Before the loops
 
-sub-top : tie.Need-sub-top Inv-raising μ-raising Inv-growing μ-growing
-sub-top c = c .before .pre .0 .0 .levels .0
+sub-top-level : tie.Need-sub-top-level Inv-raising μ-raising Inv-growing μ-growing
+sub-top-level c = c .before .pre .0 .0 .levels .0
 
 top-speed-requires : tie.Need-top-speed-requires Inv-raising μ-raising Inv-growing μ-growing
 top-speed-requires c κs = c .before .pre .0 .0
@@ -153,17 +153,17 @@ top-speed-requires c κs = c .before .pre .0 .0
 cast-top-speed : tie.Need-cast-top-speed Inv-raising μ-raising Inv-growing μ-growing
 cast-top-speed c = search needs
 
-cast-step : tie.Need-cast-step Inv-raising μ-raising Inv-growing μ-growing
-cast-step c = search needs
+cast-gain : tie.Need-cast-gain Inv-raising μ-raising Inv-growing μ-growing
+cast-gain c = search needs
 
-cast-step-2 : tie.Need-cast-step-2 Inv-raising μ-raising Inv-growing μ-growing
-cast-step-2 c = search needs
+cast-gain-2 : tie.Need-cast-gain-2 Inv-raising μ-raising Inv-growing μ-growing
+cast-gain-2 c = search needs
 
 ticks-most : (c : Begin) → c .args .all .hyperperiod ≤ hyperperiodLimit
 ticks-most c = rw (ticks-are c) (c .pre .1 .0)
 
-mul-step : tie.Need-mul-step Inv-raising μ-raising Inv-growing μ-growing
-mul-step c = let s = c .before .before .before in omega (arith, mul-le-mul (ticks-most s) (s .pre .0 .0 .step .1))
+mul-gain : tie.Need-mul-gain Inv-raising μ-raising Inv-growing μ-growing
+mul-gain c = let s = c .before .before .before in omega (arith, mul-le-mul (ticks-most s) (s .pre .0 .0 .step .1))
 
 steps-of-requires : tie.Need-steps-of-requires Inv-raising μ-raising Inv-growing μ-growing
 steps-of-requires c κs = search needs
@@ -181,20 +181,20 @@ growing-holds c =
 few : (c : tie.In-growing Inv-raising μ-raising Inv-growing μ-growing) → c .before .growing .i < 32
 few c = omega (arith, inside c, begin (c .before) .pre .0 .0 .processors .1)
 
-add-first : tie.Need-add-first Inv-raising μ-raising Inv-growing μ-growing
-add-first c = omega (arith, few c)
+add-joined : tie.Need-add-joined Inv-raising μ-raising Inv-growing μ-growing
+add-joined c = omega (arith, few c)
 
-cast-least : tie.Need-cast-least Inv-raising μ-raising Inv-growing μ-growing
-cast-least c = search needs
+cast-base : tie.Need-cast-base Inv-raising μ-raising Inv-growing μ-growing
+cast-base c = search needs
 
-cast-least-2 : tie.Need-cast-least-2 Inv-raising μ-raising Inv-growing μ-growing
-cast-least-2 c = search needs
+cast-base-2 : tie.Need-cast-base-2 Inv-raising μ-raising Inv-growing μ-growing
+cast-base-2 c = search needs
 
 lowest-most : (c : Begin) → c .args .all .hyperperiod * c .args .machine .lowest ≤ hyperperiodLimit * 256
 lowest-most c = mul-le-mul (ticks-most c) (c .pre .0 .0 .lowest .1)
 
-mul-least : tie.Need-mul-least Inv-raising μ-raising Inv-growing μ-growing
-mul-least c = omega (arith, lowest-most (begin (c .before .before)))
+mul-base : tie.Need-mul-base Inv-raising μ-raising Inv-growing μ-growing
+mul-base c = omega (arith, lowest-most (begin (c .before .before)))
 
 add-supply : tie.Need-add-supply Inv-raising μ-raising Inv-growing μ-growing
 add-supply c =
@@ -271,7 +271,7 @@ raising-holds c =
     let g = t .growing in (
       g .inv .1,
       inner-begin _ _ (given b) _ _ _ _ _ _ _ _ (g .inv .2) (inside (c .before .before .before)) _ _ _ _
-          (ap (λ (n : ℕ). g .supply + n) (least-is t)) (omega arith) refl (asks (c .before)),
+          (ap (λ (n : ℕ). g .supply + n) (base-is t)) (omega arith) refl (asks (c .before)),
     )
 
 -- ---- A raise
@@ -414,7 +414,7 @@ no-plan-requires : tie.Need-no-plan-requires Inv-raising μ-raising Inv-growing 
 no-plan-requires c κs = search needs
 
 returns : tie.Need-returns Inv-raising μ-raising Inv-growing μ-growing
-unfolding stated
+unfolding planFrom
 returns c =
     let l = c .before .before in
     let t = l .before in
@@ -432,7 +432,7 @@ returns c =
       };
       raising = w .4;
     } in
-    c .no-plan .ensures ∙ ap (stated (hyperperiod (held-jobs b)))
+    c .no-plan .ensures ∙ ap (planFrom (hyperperiod (held-jobs b)))
     (sym (step-none _ _ (given b) _ _ _ _ _ _ _ _ (r .raising .inv .1) (within r) (w .5 .taken) (w .6 .taken))))
     (l .growing-test .came)
 
@@ -459,19 +459,19 @@ grow-spec =
     μ-raising
     Inv-growing
     μ-growing
-    sub-top
+    sub-top-level
     top-speed-requires
     cast-top-speed
-    cast-step
-    cast-step-2
-    mul-step
+    cast-gain
+    cast-gain-2
+    mul-gain
     steps-of-requires
     none-taken-requires
     growing-holds
-    add-first
-    cast-least
-    cast-least-2
-    mul-least
+    add-joined
+    cast-base
+    cast-base-2
+    mul-base
     add-supply
     next-job-requires
     work-of-requires

@@ -1,4 +1,4 @@
--- `workload::load_of` meets its contract: the totals are those of the jobs from j on.
+-- `workload::load_of` meets its contract: the totals are those of the jobs from i on.
 use Prim.Native.Nat.{ℕ, _-_, _≤_}
 use native.Mathlib.Omega.{arith}
 use mathlib.Core.Path.{_≡_, refl, sym, ap, subst, _∙_}

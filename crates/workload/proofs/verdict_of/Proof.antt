@@ -20,8 +20,9 @@ returns c =
     let s = c .before .before in
     let M = s .args .machine in
     let jobs = take (s .args .held) (s .args .jobs) in
-    subst (Tells M jobs) (sym (c .judge .ensures ∙ ap (judged (M .processors)) (c .before .load-of .ensures)))
-    (judges M (s .pre .0) jobs (in-range-positive jobs (s .pre .2)))
+    let j = judges M (s .pre .0) jobs (in-range-positive jobs (s .pre .2)) in
+    let e = c .judge .ensures ∙ ap (judged (M .processors)) (c .before .load-of .ensures) ∙ j .by-load in
+    (e, subst (Tells M jobs) (sym e) (j .tells))
 
 pub verdict-of-spec : {M : Type 1} → statement M
 verdict-of-spec = tie.close (tie.spec load-of-requires judge-requires returns)
