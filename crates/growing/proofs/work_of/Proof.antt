@@ -32,7 +32,9 @@ cast-result-3 : tie.Need-cast-result-3
 cast-result-3 c = omega (arith, share c)
 
 mul-result : tie.Need-mul-result
-mul-result c = omega (arith, mul-le-mul (c .before .before .pre .cost .1) (share c))
+mul-result c =
+    let r = c .before .before .pre in
+    omega (arith, mul-le-mul (r .cost .1) (share c), mul-le-mul (r .period .1) (share c))
 
 returns : tie.Need-returns
 unfolding work
