@@ -5,8 +5,8 @@ use native.Mathlib.Omega.{arith}
 use mathlib.Core.Path.{_≡_, refl, sym, ap, subst, _∙_}
 use mathlib.Core.Bool.{Bool, true, false, false≢true}
 use mathlib.Core.List.{List, _++_}
-use lib.ListN.{length, take, replicate}
-use lib.Seq.{take-append-seam}
+use lib.ListN.{length, take, drop, replicate}
+use lib.Seq.{take-append-seam, drop-append-seam}
 use Rattle.number.specs.Divisors.{euclid, gcd, lcm}
 use Rattle.gmf.specs.declared.Machine.{Machine}
 use Rattle.gmf.specs.declared.Job.{Job}
@@ -54,6 +54,9 @@ module _ (M : Machine) (in-range : InRange M) (jobs : List Job) where
         (h, (plan, l .is-plan, l .passing)),
         λ _. record {
           in-hyperperiod = refl;
+          after =
+              ap (λ (n : ℕ). drop n (plan ++ replicate (32 - length plan) 0)) (sym (l .is-plan .size)) ∙ drop-append-seam plan (replicate (32 - length plan) 0)
+              ∙ ap (λ (n : ℕ). replicate (32 - n) 0) (l .is-plan .size);
           least = subst (λ (q : List ℕ). Least M (hyperperiod jobs) (works jobs) q raises) (sym same) l;
           cheapest = subst (λ (q : List ℕ). (table : List ℕ) → length table ≡ M .levels → Convex table
               → (other : List ℕ) → IsPlan M other → PassesFor M jobs other → total table q ≤ total table other) (sym same)

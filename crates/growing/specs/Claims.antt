@@ -1,8 +1,8 @@
 -- What is proved of the plan that is returned: `Planning` is all of it. Its proof is proofs/Results.antt.
-use Prim.Native.Nat.{ℕ, _≤_}
+use Prim.Native.Nat.{ℕ, _-_, _≤_}
 use mathlib.Core.Path.{_≡_}
 use mathlib.Core.List.{List, [], _∷_}
-use lib.ListN.{length, take, replicate}
+use lib.ListN.{length, take, drop, replicate}
 use Rattle.gmf.specs.declared.Machine.{Machine}
 use Rattle.gmf.specs.declared.Job.{Job}
 use Rattle.gmf.specs.Machine.{InRange}
@@ -16,17 +16,18 @@ use Rattle.workload.specs.declared.Verdict.the-variants as verdict
 use Rattle.workload.specs.Load.{verdictOf}
 use Rattle.workload.specs.Claims.{Tells}
 use Rattle.growing.specs.declared.Plan.{Plan}
-use Rattle.growing.specs.Plan.{withoutPlan, planned}
+use Rattle.growing.specs.Plan.{planned}
 
 -- The levels of a machine's processors.
 abbrev pub levelsOf : Machine → Plan → List ℕ
 levelsOf M plan = take (M .processors) (plan .levels)
 
--- What a plan that is returned is: the least that passes, in the jobs' own hyperperiod, and the cheapest under every table of L numbers
--- that never falls and whose rises never shrink.
+-- What a plan that is returned is: the least that passes, in the jobs' own hyperperiod, with zeros after its m levels, and the cheapest
+-- under every table of L numbers that never falls and whose rises never shrink.
 pub record Returned (M : Machine) (jobs : List Job) (plan : Plan) : Type 0 where
   pub in-hyperperiod : plan .hyperperiod ≡ hyperperiod jobs
   pub least : Least M (hyperperiod jobs) (works jobs) (levelsOf M plan) (plan .raises)
+  pub after : drop (M .processors) (plan .levels) ≡ replicate (32 - M .processors) 0
   pub cheapest : (table : List ℕ) → length table ≡ M .levels → Convex table
       → (other : List ℕ) → IsPlan M other → PassesFor M jobs other → total table (levelsOf M plan) ≤ total table other
 
@@ -41,8 +42,10 @@ pub record Answers (M : Machine) (jobs : List Job) : Type 0 where
 pub record PlanTrials : Type 0 where
   pub sheet : planned (quarters 4) (jobsFrom 1 ((10, 10) ∷ (9, 10) ∷ (6, 10) ∷ (5, 10) ∷ (1, 10) ∷ []))
       ≡ record { verdict = SomePlan; hyperperiod = 10; raises = 9; levels = 3 ∷ 3 ∷ 2 ∷ 1 ∷ replicate 28 0 }
-  pub no-plan : planned (quarters 4) (jobsFrom 1 ((11, 10) ∷ [])) ≡ withoutPlan verdict.NoPlan
-  pub too-long : planned (quarters 4) (jobsFrom 1 ((1, 4096) ∷ (1, 4097) ∷ [])) ≡ withoutPlan verdict.TooLong
+  pub no-plan : planned (quarters 4) (jobsFrom 1 ((11, 10) ∷ []))
+      ≡ record { verdict = verdict.NoPlan; hyperperiod = 0; raises = 0; levels = replicate 32 0 }
+  pub too-long : planned (quarters 4) (jobsFrom 1 ((1, 4096) ∷ (1, 4097) ∷ []))
+      ≡ record { verdict = verdict.TooLong; hyperperiod = 0; raises = 0; levels = replicate 32 0 }
 
 pub record Planning : Type 0 where
   pub answers : (M : Machine) → InRange M → (jobs : List Job) → Answers M jobs

@@ -18,6 +18,7 @@ load-trials = record {
   just-too-long = refl;
   none = refl;
   full = refl;
+  unfit-last = refl;
   unfit = refl;
 }
 

@@ -101,7 +101,7 @@ pub judges : Judges
 judges M in-range jobs positive =
     let t = judge M in-range jobs positive in
     let e = told-is M in-range jobs (judged (M .processors) (loadOf jobs)) t in
-    record { tells = subst (Tells M jobs) e t; by-load = e }
+    record { tells = subst (Tells M jobs) e t; only = told-is M in-range jobs; by-load = e }
 
 -- ---- A verdict, as the code finds it
 
