@@ -6,9 +6,9 @@ use mathlib.Core.Path.{refl}
 use mathlib.Core.List.{List, [], _∷_}
 use Rattle.number.specs.Divisors.{lcm, gcd, euclid}
 use Rattle.gmf.specs.Machine.{speed, top}
-use Rattle.gmf.specs.Jobs.{window, hyperperiod, work, works}
+use Rattle.gmf.specs.Jobs.{ifWithin, window, hyperperiod, work, works}
 use Rattle.gmf.specs.Power.{power, rise, powerLimit, IsTable}
-use Rattle.gmf.specs.Trials.{machine, quarters, jobsFrom, RangeEdges, JobEdges, TableEdges}
+use Rattle.gmf.specs.Trials.{machine, quarters, jobsFrom, RangeEdges, JobEdges, LimitEdges, TableEdges}
 use Rattle.gmf.specs.Claims.{FitsEdges}
 
 pub range-edges : RangeEdges
@@ -44,6 +44,10 @@ job-edges = record {
   twice = λ h. omega arith;
   falling = λ h. omega arith;
 }
+
+pub limit-edges : LimitEdges
+unfolding ifWithin
+limit-edges = record { most = refl; above = refl }
 
 -- What holds at 0, 1 and 2 holds below 3.
 below-three : (P : ℕ → Type 0) → P 0 → P 1 → P 2 → (j : ℕ) → j < 3 → P j

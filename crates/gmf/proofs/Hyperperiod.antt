@@ -4,9 +4,10 @@ use native.Mathlib.Nat.{dvd-trans, one-dvd, div-mul-cancel, mul-div-assoc, mul-a
 use native.Mathlib.Omega.{arith}
 use mathlib.Core.Path.{_≡_, refl, ap, ap₂, _∙_}
 use mathlib.Core.List.{List, [], _∷_, _++_, map}
+use borrow.Author.Tests.{le-leb, lt-leb}
 use Rattle.number.proofs.Laws.{lcm-is, lcm-pos}
 use Rattle.gmf.specs.declared.Job.{Job}
-use Rattle.gmf.specs.Jobs.{JobInRange, window, hyperperiod, work, Every}
+use Rattle.gmf.specs.Jobs.{JobInRange, hyperperiodLimit, ifWithin, window, hyperperiod, work, Every}
 use Rattle.gmf.specs.Claims.{PositiveWindows, LeastCommon}
 
 -- ---- Every
@@ -32,6 +33,17 @@ window-range job r = r .period
 
 pub in-range-positive : (jobs : List Job) → Every JobInRange jobs → PositiveWindows jobs
 in-range-positive = every-map JobInRange (λ job. 0 < window job) (λ job r. window-range job r .0)
+
+-- ---- The limit
+
+module _ {A : Type 0} (H : ℕ) (x y : A) where
+  pub within-limit : H ≤ hyperperiodLimit → ifWithin H x y ≡ x
+  unfolding ifWithin
+  within-limit h = rw (le-leb H hyperperiodLimit h, ifWithin)
+
+  pub above-limit : hyperperiodLimit < H → ifWithin H x y ≡ y
+  unfolding ifWithin
+  above-limit h = rw (lt-leb H hyperperiodLimit h, ifWithin)
 
 -- ---- The least common multiple
 

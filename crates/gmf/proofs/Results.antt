@@ -15,7 +15,7 @@ use Rattle.gmf.proofs.Retire.{retires}
 use Rattle.gmf.proofs.Feasible.{feasible-iff-fits}
 use Rattle.gmf.proofs.Tables.{cubes-hold, default-table, total-padded}
 use Rattle.gmf.proofs.AcceptanceTrials.{trials-hold}
-use Rattle.gmf.proofs.Edges.{range-edges, job-edges, table-edges, fits-edges}
+use Rattle.gmf.proofs.Edges.{range-edges, job-edges, limit-edges, table-edges, fits-edges}
 
 pub plans-jobs : PlansJobs
 unfolding planOf
@@ -48,5 +48,6 @@ method = record {
   trials = trials-hold;
   range-edges = range-edges;
   job-edges = job-edges;
+  limit-edges = limit-edges;
   table-edges = table-edges;
 }

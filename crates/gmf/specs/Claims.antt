@@ -12,7 +12,7 @@ use Rattle.gmf.specs.Jobs.{window, hyperperiod, work, works, Every}
 use Rattle.gmf.specs.Capacity.{sum, largest, level, IsPlan, Passes, PassesFor}
 use Rattle.gmf.specs.Growing.{Grown, NoPlan, slowest, raise, holds, step, steps, growing, planOf}
 use Rattle.gmf.specs.Power.{power, Convex, StrictlyConvex, IsTable, total, cubes, defaultTable}
-use Rattle.gmf.specs.Trials.{quarters, jobsFrom, Trials, RangeEdges, JobEdges, TableEdges}
+use Rattle.gmf.specs.Trials.{quarters, jobsFrom, Trials, RangeEdges, JobEdges, LimitEdges, TableEdges}
 
 -- ---- The method: for every machine with at least one processor and one level, every H and every list of works
 
@@ -223,4 +223,5 @@ pub record Method : Type 0 where
   pub trials : Trials
   pub range-edges : RangeEdges
   pub job-edges : JobEdges
+  pub limit-edges : LimitEdges
   pub table-edges : TableEdges

@@ -1,6 +1,8 @@
 -- Jobs, their hyperperiod and their works (01, "Jobs, cores and the cycle"). A job has an `id`, a `cost` C and a `period` T.
 use Prim.Native.Nat.{ℕ, _*_, _/_, _≤_, _<_}
+use mathlib.Core.Bool.{true, false}
 use mathlib.Core.List.{List, [], _∷_, map}
+use lib.Dec.{leb}
 use Rattle.number.specs.Divisors.{lcm}
 use Rattle.gmf.specs.declared.Job.{Job}
 
@@ -23,6 +25,10 @@ hyperperiod (job ∷ jobs) = lcm (window job) (hyperperiod jobs)
 -- "H is at most 16,777,216."
 abbrev pub hyperperiodLimit : ℕ
 hyperperiodLimit = 16777216
+
+-- x where H is within its limit, and y where it is above.
+unfoldable pub ifWithin : {A : Type 0} → ℕ → A → A → A
+ifWithin H x y = elim (leb H hyperperiodLimit) [ true ↦ x | false ↦ y ]
 
 -- "The work of a job is C × (H / T), a whole number."
 unfoldable pub work : ℕ → Job → ℕ

@@ -3,13 +3,13 @@
 -- the cubes of the speeds, which in quarters are 1, 8, 27 and 64.
 use Prim.Native.Nat.{ℕ, suc}
 use mathlib.Core.Path.{_≡_}
-use mathlib.Core.Bool.{false}
+use mathlib.Core.Bool.{true, false}
 use mathlib.Core.List.{List, [], _∷_, map}
 use lib.ListN.{length}
 use Rattle.gmf.specs.declared.Machine.{Machine}
 use Rattle.gmf.specs.declared.Job.{Job}
 use Rattle.gmf.specs.Machine.{InRange}
-use Rattle.gmf.specs.Jobs.{JobInRange, ByRisingId, hyperperiod, works}
+use Rattle.gmf.specs.Jobs.{JobInRange, ByRisingId, ifWithin, hyperperiod, works}
 use Rattle.gmf.specs.Growing.{Growth, Grown, NoPlan, holds, planOf}
 use Rattle.gmf.specs.Power.{IsTable, total, defaultTable}
 
@@ -121,6 +121,11 @@ pub record JobEdges : Type 0 where
   pub rising : ByRisingId (jobsFrom 1 ((1, 2) ∷ (1, 2) ∷ (1, 2) ∷ []))
   pub twice : ByRisingId (job 1 1 2 ∷ job 1 1 2 ∷ []) → ⊥
   pub falling : ByRisingId (job 1 1 2 ∷ job 3 1 2 ∷ job 2 1 2 ∷ []) → ⊥
+
+-- The limit itself is within.
+pub record LimitEdges : Type 0 where
+  pub most : ifWithin 16777216 true false ≡ true
+  pub above : ifWithin 16777217 true false ≡ false
 
 -- "Tables for three levels: 18 48 100 and 5 5 5 accepted; 0 5 9 refused 3." And each rule of a table by itself.
 pub record TableEdges : Type 0 where

@@ -11,7 +11,7 @@ use Rattle.number.specs.Divisors.{euclid, gcd, lcm}
 use Rattle.gmf.specs.declared.Machine.{Machine}
 use Rattle.gmf.specs.declared.Job.{Job}
 use Rattle.gmf.specs.Machine.{InRange, speed, top}
-use Rattle.gmf.specs.Jobs.{window, hyperperiod, hyperperiodLimit, work, works}
+use Rattle.gmf.specs.Jobs.{ifWithin, window, hyperperiod, hyperperiodLimit, work, works}
 use Rattle.gmf.specs.Capacity.{insert, sortDescending, largest, capacity, IsPlan, PassesFor}
 use Rattle.gmf.specs.Power.{Convex, total}
 use Rattle.gmf.specs.Claims.{Least}
@@ -94,7 +94,7 @@ module _ (M : Machine) (in-range : InRange M) (jobs : List Job) where
   answers = record { verdict = verdict-same; tells = all .0; plan = all .1 }
 
 trials : PlanTrials
-unfolding euclid gcd lcm speed top window hyperperiod work works insert sortDescending largest capacity slowest raise demand holds raisesLeft raiseWhileFails step steps growing planOf machine quarters jobsFrom withoutPlan planFrom planned
+unfolding euclid gcd lcm ifWithin speed top window hyperperiod work works insert sortDescending largest capacity slowest raise demand holds raisesLeft raiseWhileFails step steps growing planOf machine quarters jobsFrom withoutPlan planFrom planned
 trials = record { sheet = refl; no-plan = refl; too-long = refl }
 
 pub planning : Planning

@@ -1,12 +1,10 @@
 -- The plan of a machine for its jobs, as the struct that is returned.
 use Prim.Native.Nat.{ℕ, _-_}
-use mathlib.Core.Bool.{true, false}
 use mathlib.Core.List.{List, _++_}
-use lib.Dec.{leb}
 use lib.ListN.{length, replicate}
 use Rattle.gmf.specs.declared.Machine.{Machine}
 use Rattle.gmf.specs.declared.Job.{Job}
-use Rattle.gmf.specs.Jobs.{hyperperiod, hyperperiodLimit}
+use Rattle.gmf.specs.Jobs.{ifWithin, hyperperiod}
 use Rattle.gmf.specs.Growing.{Growth, Grown, NoPlan, planOf}
 use Rattle.workload.specs.declared.Verdict.{Verdict}
 use Rattle.workload.specs.declared.Verdict.the-variants as verdict
@@ -24,5 +22,4 @@ planFrom H NoPlan = withoutPlan verdict.NoPlan
 
 -- The plan that a machine gives its jobs. Refusal 16 is a hyperperiod above its limit, refusal 17 that no plan passes.
 unfoldable pub planned : Machine → List Job → Plan
-planned M jobs =
-    elim (leb (hyperperiod jobs) hyperperiodLimit) [ true ↦ planFrom (hyperperiod jobs) (planOf M jobs) | false ↦ withoutPlan verdict.TooLong ]
+planned M jobs = ifWithin (hyperperiod jobs) (planFrom (hyperperiod jobs) (planOf M jobs)) (withoutPlan verdict.TooLong)

@@ -1,14 +1,14 @@
 -- Loads and an order of jobs, computed from the definitions.
 use mathlib.Core.Path.{refl}
 use Rattle.number.specs.Divisors.{euclid, gcd, lcm}
-use Rattle.gmf.specs.Jobs.{window, hyperperiod, work, works}
+use Rattle.gmf.specs.Jobs.{ifWithin, window, hyperperiod, work, works}
 use Rattle.gmf.specs.Trials.{jobsFrom}
 use Rattle.workload.specs.Load.{limited, costsFit, totals, loadOf}
 use Rattle.workload.specs.Turns.{hasMore, comesBefore, noneTaken, idle, nextOf, nextAfter, turn}
 use Rattle.workload.specs.Claims.{LoadTrials, TurnTrial}
 
 pub load-trials : LoadTrials
-unfolding euclid gcd lcm window hyperperiod work works jobsFrom limited costsFit totals loadOf
+unfolding euclid gcd lcm ifWithin window hyperperiod work works jobsFrom limited costsFit totals loadOf
 load-trials = record {
   mixed = refl;
   long = refl;

@@ -8,7 +8,6 @@ use mathlib.Core.Bool.{Bool, true, false, false≢true, _&&_, and-comm}
 use mathlib.Core.List.{List, [], _∷_, _++_, map}
 use lib.Dec.{leb}
 use lib.ListN.{length, drop}
-use borrow.Author.Tests.{le-leb, lt-leb}
 use Rattle.number.specs.Divisors.{gcd, lcm}
 use Rattle.number.proofs.Laws.{gcd-step, gcd-swap, gcd-pos, lcm-is, lcm-other, lcm-multiple, lcm-swap}
 use Rattle.gmf.specs.declared.Job.{Job}
@@ -16,23 +15,13 @@ use Rattle.gmf.specs.Jobs.{JobInRange, window, hyperperiod, hyperperiodLimit, w
 use Rattle.gmf.specs.Capacity.{sum}
 use Rattle.gmf.specs.Claims.{PositiveWindows}
 use Rattle.gmf.proofs.Sums.{sum-scale}
-use Rattle.gmf.proofs.Hyperperiod.{window-range, in-range-positive, hyperperiod-pos, hyperperiod-multiple, hyperperiod-least, works-scale}
+use Rattle.gmf.proofs.Hyperperiod.{window-range, within-limit, above-limit, in-range-positive, hyperperiod-pos, hyperperiod-multiple, hyperperiod-least, works-scale}
 use Rattle.workload.specs.declared.Totals.{Totals}
 use Rattle.workload.specs.declared.Load.{Load}
 use Rattle.workload.specs.declared.Load.the-variants.{Within, TooLong}
 use Rattle.workload.specs.Load.{limited, costsFit, totals, loadOf, moreTotals, withJob}
 use Rattle.workload.specs.Claims.{LoadRule}
 use Rattle.workload.proofs.Suffixes.{every-drop}
-
--- ---- The limit
-
-within-limit : (t : Totals) → t .hyperperiod ≤ hyperperiodLimit → limited t ≡ Within t
-unfolding limited
-within-limit t h = rw (le-leb (t .hyperperiod) hyperperiodLimit h, limited)
-
-above-limit : (t : Totals) → hyperperiodLimit < t .hyperperiod → limited t ≡ TooLong
-unfolding limited
-above-limit t h = rw (lt-leb (t .hyperperiod) hyperperiodLimit h, limited)
 
 -- ---- One job more
 
@@ -84,12 +73,12 @@ inner TooLong = totals []
 
 module _ (jobs : List Job) where
   pub load-within : hyperperiod jobs ≤ hyperperiodLimit → loadOf jobs ≡ Within (totals jobs)
-  unfolding loadOf totals
-  load-within h = within-limit (totals jobs) h
+  unfolding loadOf limited totals
+  load-within h = within-limit (hyperperiod jobs) _ _ h
 
   pub load-above : hyperperiodLimit < hyperperiod jobs → loadOf jobs ≡ TooLong
-  unfolding loadOf totals
-  load-above h = above-limit (totals jobs) h
+  unfolding loadOf limited totals
+  load-above h = above-limit (hyperperiod jobs) _ _ h
 
   pub says-within : (t : Totals) → loadOf jobs ≡ Within t → (t ≡ totals jobs) × (hyperperiod jobs ≤ hyperperiodLimit)
   unfolding isTooLong inner
@@ -180,10 +169,10 @@ module _ (t : Totals) (job : Job) (in-range : JobInRange job) (ticks : 0 < t .hy
     -- Where the window divides the hyperperiod, that stays.
     pub with-same : t .hyperperiod % n ≡ 0 → t .hyperperiod ≤ hyperperiodLimit
         → Within record { hyperperiod = t .hyperperiod; work = t .work + job .cost * (t .hyperperiod / n); fit = f } ≡ withJob t job
-    unfolding withJob moreTotals work
+    unfolding withJob limited moreTotals work
     with-same e h =
         rw (← f-is, ← n-is, lcm-multiple n (t .hyperperiod) (dvd-of-mod-eq-zero n e), div-self ticks)
-        (sym (within-limit _ h) ∙ ap (λ (w : ℕ). limited record { hyperperiod = t .hyperperiod; work = w; fit = f }) (omega arith))
+        (sym (within-limit _ _ _ h) ∙ ap (λ (w : ℕ). limited record { hyperperiod = t .hyperperiod; work = w; fit = f }) (omega arith))
 
   module _ (d : ℕ) (d-is : d ≡ gcd n (t .hyperperiod % n)) where
     pub common-pos : 0 < d
@@ -201,14 +190,14 @@ module _ (t : Totals) (job : Job) (in-range : JobInRange job) (ticks : 0 < t .hy
     longer-is = rw common-is (omega arith)
 
     pub with-too-long : hyperperiodLimit < t .hyperperiod * (n / d) → TooLong ≡ withJob t job
-    unfolding withJob moreTotals
-    with-too-long h = sym (above-limit _ (rw (← n-is, longer-is) h))
+    unfolding withJob limited moreTotals
+    with-too-long h = sym (above-limit _ _ _ (rw (← n-is, longer-is) h))
 
     pub with-longer : (f : Bool) → f ≡ (t .fit && leb (job .cost) (window job)) → t .hyperperiod * (n / d) ≤ hyperperiodLimit
         → Within record { hyperperiod = t .hyperperiod * (n / d); work = t .work * (n / d) + job .cost * (t .hyperperiod / d); fit = f } ≡ withJob t job
-    unfolding withJob moreTotals work
+    unfolding withJob limited moreTotals work
     with-longer f f-is h =
         let share : lcm n (t .hyperperiod) / n ≡ t .hyperperiod / d = rw (common-is, lcm-other n (t .hyperperiod)) (mul-div-cancel-left _ window-pos) in
         let factor : lcm n (t .hyperperiod) / t .hyperperiod ≡ n / d = rw longer-is (mul-div-cancel-left _ ticks) in
         rw (← f-is, ← n-is, share, factor, longer-is)
-        (sym (within-limit _ h) ∙ ap (λ (w : ℕ). limited record { hyperperiod = t .hyperperiod * (n / d); work = w; fit = f }) (omega arith))
+        (sym (within-limit _ _ _ h) ∙ ap (λ (w : ℕ). limited record { hyperperiod = t .hyperperiod * (n / d); work = w; fit = f }) (omega arith))

@@ -6,7 +6,7 @@ use mathlib.Core.Path.{_≡_, refl, ap, ap₂, sym, subst, _∙_}
 use mathlib.Core.Bool.{Bool, true, false, false≢true, _&&_}
 use mathlib.Core.List.{List, [], _∷_}
 use lib.Dec.{leb}
-use borrow.Author.Tests.{le-leb, lt-leb, leb-true}
+use borrow.Author.Tests.{le-leb, leb-true}
 use Rattle.gmf.specs.declared.Machine.{Machine}
 use Rattle.gmf.specs.declared.Job.{Job}
 use Rattle.gmf.specs.Machine.{InRange, speed, top}
@@ -16,6 +16,7 @@ use Rattle.gmf.specs.Claims.{PositiveWindows, Feasible, NonePasses}
 use Rattle.gmf.proofs.Sums.{by-test}
 use Rattle.gmf.specs.Growing.{Growth, Grown, planOf}
 use Rattle.gmf.specs.Growing as gmf
+use Rattle.gmf.proofs.Hyperperiod.{within-limit, above-limit}
 use Rattle.gmf.proofs.Feasible.{feasible-iff-fits}
 use Rattle.gmf.proofs.Results.{plans-jobs}
 use Rattle.workload.specs.declared.Load.{Load}
@@ -78,11 +79,11 @@ module _ (M : Machine) (in-range : InRange M) (jobs : List Job) (positive : Posi
 module _ (M : Machine) (in-range : InRange M) (jobs : List Job) where
   pub verdict-within : hyperperiod jobs ≤ hyperperiodLimit → (g : Growth) → planOf M jobs ≡ g → verdictOf M jobs ≡ verdictOn g
   unfolding verdictOf
-  verdict-within h g e = rw (le-leb (hyperperiod jobs) hyperperiodLimit h, e, verdictOf)
+  verdict-within h g e = within-limit (hyperperiod jobs) _ _ h ∙ ap verdictOn e
 
   pub verdict-above : hyperperiodLimit < hyperperiod jobs → verdictOf M jobs ≡ verdict.TooLong
   unfolding verdictOf
-  verdict-above h = rw (lt-leb (hyperperiod jobs) hyperperiodLimit h, verdictOf)
+  verdict-above h = above-limit (hyperperiod jobs) _ _ h
 
   some-plan : Feasible M jobs → (g : Growth) → planOf M jobs ≡ g → verdictOn g ≡ SomePlan
   unfolding verdictOn

@@ -6,7 +6,7 @@ use lib.Dec.{leb}
 use Rattle.number.specs.Divisors.{lcm}
 use Rattle.gmf.specs.declared.Machine.{Machine}
 use Rattle.gmf.specs.declared.Job.{Job}
-use Rattle.gmf.specs.Jobs.{window, hyperperiod, hyperperiodLimit, work, works}
+use Rattle.gmf.specs.Jobs.{ifWithin, window, hyperperiod, work, works}
 use Rattle.gmf.specs.Capacity.{sum}
 use Rattle.gmf.specs.Growing.{Growth, Grown, NoPlan, planOf}
 use Rattle.workload.specs.declared.Totals.{Totals}
@@ -17,7 +17,7 @@ use Rattle.workload.specs.declared.Verdict.the-variants as verdict
 
 -- The totals where the hyperperiod is within its limit. "H is at most 16,777,216."
 unfoldable pub limited : Totals → Load
-limited totals = elim (leb (totals .hyperperiod) hyperperiodLimit) [ true ↦ Within totals | false ↦ TooLong ]
+limited totals = ifWithin (totals .hyperperiod) (Within totals) TooLong
 
 -- "C may exceed T; such a job fits no plan." No cost is above its window:
 unfoldable pub costsFit : List Job → Bool
@@ -54,7 +54,7 @@ verdictOn (Grown plan raises) = verdict.SomePlan
 verdictOn NoPlan = verdict.NoPlan
 
 unfoldable pub verdictOf : Machine → List Job → Verdict
-verdictOf M jobs = elim (leb (hyperperiod jobs) hyperperiodLimit) [ true ↦ verdictOn (planOf M jobs) | false ↦ verdict.TooLong ]
+verdictOf M jobs = ifWithin (hyperperiod jobs) (verdictOn (planOf M jobs)) verdict.TooLong
 
 -- The same, told by the load: no cost is above its window, and the works are at most m × H. That it is the same is `Judges`.
 unfoldable pub judged : ℕ → Load → Verdict
