@@ -1,0 +1,10 @@
+-- 01's sheet, and frames with wide numbers, by computation.
+use mathlib.Core.Path.{refl}
+use Rattle.frame_reader.specs.Lines.{joined, linesOf, lineLength, lineEnd}
+use Rattle.hexadecimal.specs.Text.{valueOf, byteBefore, endOf, textOf}
+use Rattle.frame_reader.specs.Frames.{kindOf, rightLength, widthsIn, numberAt, numbersFrom, saidAs, saidWith, saidIn, saidBy}
+use Rattle.frame_reader.specs.Claims.{sheet, wideNumbers, FrameTrials}
+
+pub frame-trials : FrameTrials
+unfolding sheet wideNumbers joined linesOf lineLength lineEnd valueOf byteBefore endOf textOf kindOf rightLength widthsIn numberAt numbersFrom saidAs saidWith saidIn saidBy
+frame-trials = record { sheet-ends = refl; sheet-says = refl; wide-numbers = refl }

@@ -1,0 +1,9 @@
+pub mod Examples
+pub mod Lines
+pub mod Outcomes
+pub mod Decoding
+pub mod Numbers
+pub mod Readings
+pub mod Lengths
+pub mod Malformed
+pub mod Results

@@ -1,0 +1,76 @@
+-- Refusal 5: which lines are malformed.
+use mathlib.Core.Path.{_≡_, refl}
+use mathlib.Core.Logic.{_⊎_, inl, inr}
+use mathlib.Core.Bool.{Bool, true, false}
+use mathlib.Core.List.{List, [], _∷_}
+use Prim.Native.Nat.{ℕ, _-_, _/_, _<_}
+use native.Mathlib.Omega.{arith}
+use lib.ListN.{length, List·getD-eq-default}
+use Rattle.hexadecimal.specs.Text.{Text, bytes, wrong, textOf}
+use Rattle.frame_reader.specs.Frames.{refused, kindOf, rightLength, saidAs, saidWith, saidIn, saidBy}
+use Rattle.frame_reader.specs.Claims.{Malformed, empty, not-closed, wrong-digit, odd-digits, unknown-kind, wrong-length, RefusalRule}
+use Rattle.frame_reader.proofs.Outcomes.{Right, Unread, unclosed, no-digit, odd, Outcome, right, unread, outcome}
+use Rattle.frame_reader.proofs.Readings.{said-right, said-wrong}
+
+-- A kind, with the bytes after it, by whether their number is right.
+module _ (kind : ℕ) (rest : List ℕ) where
+  abbrev fits : Bool
+  fits = rightLength (kindOf kind .layout) (length rest)
+
+  because-length : (number : ℕ) → saidAs kind rest ≡ refused number → (number ≡ 5) × (fits ≡ false)
+  because-length number q = go fits refl
+    where
+      go : (t : Bool) → fits ≡ t → (number ≡ 5) × (fits ≡ false)
+      go true e = let z : _≡_ {A = ℕ} 0 1 = cc (said-right kind rest e) in absurd (omega arith)
+      go false e = (cc (said-wrong kind rest e), e)
+
+kind-wrong : (kind n : ℕ) → (kind < 1) ⊎ (5 < kind) → rightLength (kindOf kind .layout) n ≡ false
+unfolding kindOf rightLength
+kind-wrong kind n (inl h) = rw first
+  where
+    first : kind ≡ 0
+    first = omega arith
+kind-wrong kind n (inr h) = rw List·getD-eq-default
+
+-- The number of bytes after the kind, by the length of the line.
+rest-size : (line rest : List ℕ) (kind : ℕ) → Right line (kind ∷ rest) → (length line - 1) / 2 - 1 ≡ length rest
+rest-size line rest kind r = omega (arith, r .size)
+
+refuses-right : (line frame : List ℕ) → Right line frame → Malformed line → saidWith frame ≡ refused 5
+unfolding saidWith
+refuses-right line [] r m = refl
+refuses-right line (kind ∷ rest) r (empty h) = absurd (omega (arith, r .size))
+refuses-right line (kind ∷ rest) r (not-closed h) = absurd (h (r .closed))
+refuses-right line (kind ∷ rest) r (wrong-digit k h e) = absurd (omega (arith, r .digits k h))
+refuses-right line (kind ∷ rest) r (odd-digits e) = absurd (omega (arith, r .size))
+refuses-right line (kind ∷ rest) r (unknown-kind h) = said-wrong kind rest (kind-wrong kind (length rest) (rw (← r .kind (omega arith)) at h))
+refuses-right line (kind ∷ rest) r (wrong-length e) = said-wrong kind rest (rw (← r .kind (omega arith), rest-size line rest kind r) at e)
+
+refuses : (line : List ℕ) (text : Text) → Outcome line text → Malformed line → saidIn text ≡ refused 5
+unfolding saidIn
+refuses line (bytes frame) (right r) m = refuses-right line frame r m
+refuses line wrong (unread u) m = refl
+
+because-right : (line frame : List ℕ) (number : ℕ) → Right line frame → saidWith frame ≡ refused number → (number ≡ 5) × Malformed line
+unfolding saidWith
+because-right line [] number r q = (cc, empty (omega (arith, r .size)))
+because-right line (kind ∷ rest) number r q =
+    let b = because-length kind rest number q in
+    (b .0, wrong-length (rw (← r .kind (omega arith), rest-size line rest kind r) (b .1)))
+
+because-unread : (line : List ℕ) → Unread line → Malformed line
+because-unread line (unclosed h) = not-closed h
+because-unread line (no-digit k h e) = wrong-digit k h e
+because-unread line (odd e) = odd-digits e
+
+because : (line : List ℕ) (text : Text) (number : ℕ) → Outcome line text → saidIn text ≡ refused number → (number ≡ 5) × Malformed line
+unfolding saidIn
+because line (bytes frame) number (right r) q = because-right line frame number r q
+because line wrong number (unread u) q = (cc, because-unread line u)
+
+pub refusal-rule : (line : List ℕ) → RefusalRule line
+unfolding saidBy
+refusal-rule line = record {
+  refuses = refuses line (textOf line) (outcome line);
+  because = λ number. because line (textOf line) number (outcome line);
+}
