@@ -9,7 +9,7 @@ use lib.Seq.{take-suc-set}
 use Rattle.frame_reader.specs.declared.Decoded.{Decoded}
 use Rattle.frame_reader.specs.declared.Decoded.the-variants.{Bytes, Wrong}
 use Rattle.hexadecimal.specs.Text.{lineFeed, Text, bytes, wrong, valueOf, byteBefore, textOf}
-use Rattle.frame_reader.specs.Decoding.{textIn, countOf}
+use Rattle.frame_reader.specs.Decoding.{longestFrame, textIn, countOf}
 use Rattle.hexadecimal.proofs.Text.{text-more, text-closed, text-open, text-ended, high-wrong, low-wrong, both-right}
 
 -- Bytes before a text.
@@ -30,21 +30,21 @@ before-byte front high low (bytes rest) h k =
     rw (both-right high low rest h k) (ap bytes (sym (append-assoc front ((high * 16 + low) ∷ []) rest)))
 
 -- What `decode` answers.
-abbrev pub Decodes : List ℕ → Decoded → List ℕ → Type 0
-Decodes line decoded buffer = (textIn decoded buffer ≡ textOf line) × (countOf decoded ≤ 129)
+abbrev Decodes : List ℕ → Decoded → List ℕ → Type 0
+Decodes line decoded buffer = (textIn decoded buffer ≡ textOf line) × (countOf decoded ≤ longestFrame)
 
 -- Between two bytes: `count` bytes stand in the buffer, of the first i digits.
 pub record Progress (line buffer : List ℕ) (i count : ℕ) : Type 0 where
-  pub room : length buffer ≡ 129
+  pub room : length buffer ≡ longestFrame
   pub place : i ≡ 2 * count
   pub inside : i ≤ length line
   pub text : textOf line ≡ before (take count buffer) (textOf (drop i line))
 
-pub begin : (line buffer : List ℕ) → length buffer ≡ 129 → Progress line buffer 0 0
+pub begin : (line buffer : List ℕ) → length buffer ≡ longestFrame → Progress line buffer 0 0
 begin line buffer h = record { room = h; place = refl; inside = omega arith; text = before-none (textOf line) }
 
 module _ (line buffer : List ℕ) (i count : ℕ) (p : Progress line buffer i count) where
-  pub more : (high low byte : ℕ) → length line ≤ 259 → i + 1 < length line → high ≡ valueOf (getD line i 0) → low ≡ valueOf (getD line (i + 1) 0)
+  pub more : (high low byte : ℕ) → length line ≤ 2 * longestFrame + 1 → i + 1 < length line → high ≡ valueOf (getD line i 0) → low ≡ valueOf (getD line (i + 1) 0)
       → high < 16 → low < 16 → byte ≡ high * 16 + low → Progress line (set buffer count byte) (i + 2) (count + 1)
   more high low byte short h eh el bh bl eb = record {
     room = simp length-set (p .room);
@@ -75,7 +75,7 @@ module _ (line buffer : List ℕ) (i count : ℕ) (p : Progress line buffer i co
   pub not-closed : i + 1 ≡ length line → (getD line i 0 ≡ lineFeed → ⊥) → Decodes line Wrong buffer
   not-closed h e = given-up (text-open line i h e)
 
-  pub closed : length line ≤ 259 → i + 1 ≡ length line → getD line i 0 ≡ lineFeed → Decodes line (Bytes count) buffer
+  pub closed : length line ≤ 2 * longestFrame + 1 → i + 1 ≡ length line → getD line i 0 ≡ lineFeed → Decodes line (Bytes count) buffer
   unfolding before textIn countOf
   closed short h e = (
     sym (p .text ∙ ap (before (take count buffer)) (text-closed line i h e) ∙ ap bytes (append-nil (take count buffer))),
@@ -83,6 +83,6 @@ module _ (line buffer : List ℕ) (i count : ℕ) (p : Progress line buffer i co
   )
 
 -- What an answer with a count says.
-pub count-within : (decoded : Decoded) (count : ℕ) → decoded ≡ Bytes count → countOf decoded ≤ 129 → count ≤ 129
+pub count-within : (decoded : Decoded) (count : ℕ) → decoded ≡ Bytes count → countOf decoded ≤ longestFrame → count ≤ longestFrame
 unfolding countOf
-count-within decoded count e h = subst (λ (d : Decoded). countOf d ≤ 129) e h
+count-within decoded count e h = subst (λ (d : Decoded). countOf d ≤ longestFrame) e h

@@ -3,8 +3,12 @@ use mathlib.Core.Path.{refl}
 use Rattle.frame_reader.specs.Lines.{joined, linesOf, lineLength, lineEnd}
 use Rattle.hexadecimal.specs.Text.{valueOf, byteBefore, endOf, textOf}
 use Rattle.frame_reader.specs.Frames.{kindOf, rightLength, widthsIn, numberAt, numbersFrom, saidAs, saidWith, saidIn, saidBy}
-use Rattle.frame_reader.specs.Claims.{sheet, wideNumbers, FrameTrials}
+use Rattle.frame_reader.specs.Claims.{exampleSheet, wideNumbers, LineTrials, FrameTrials}
+
+pub line-trials : LineTrials
+unfolding joined linesOf
+line-trials = record { unclosed = refl; empty = refl }
 
 pub frame-trials : FrameTrials
-unfolding sheet wideNumbers joined linesOf lineLength lineEnd valueOf byteBefore endOf textOf kindOf rightLength widthsIn numberAt numbersFrom saidAs saidWith saidIn saidBy
+unfolding exampleSheet wideNumbers joined linesOf lineLength lineEnd valueOf byteBefore endOf textOf kindOf rightLength widthsIn numberAt numbersFrom saidAs saidWith saidIn saidBy
 frame-trials = record { sheet-ends = refl; sheet-says = refl; wide-numbers = refl }

@@ -3,7 +3,8 @@ pub mod Lines
 pub mod Outcomes
 pub mod Decoding
 pub mod Numbers
-pub mod Readings
 pub mod Lengths
+pub mod Readings
+pub mod Answers
 pub mod Malformed
 pub mod Results

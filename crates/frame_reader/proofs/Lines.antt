@@ -15,16 +15,9 @@ use Rattle.frame_reader.specs.Claims.{Closed, IsLine, AreLines, joinedUp
 
 -- ---- One byte more
 
--- A byte is 0A, or it is not.
-abbrev pub Feed : ℕ → Type 0
-Feed byte = (byte ≡ lineFeed) ⊎ (byte ≡ lineFeed → ⊥)
-
-pub feed : (byte : ℕ) → Feed byte
-feed byte = go (ℕ-discrete byte lineFeed)
-  where
-    go : Dec (byte ≡ lineFeed) → Feed byte
-    go (yes e) = inl e
-    go (no e) = inr e
+-- Whether a byte is 0A.
+pub feed : (byte : ℕ) → Dec (byte ≡ lineFeed)
+feed byte = ℕ-discrete byte lineFeed
 
 lines-none : linesOf [] ≡ []
 unfolding linesOf
@@ -88,17 +81,17 @@ first-more byte sheet e f = rw (length-more byte sheet e, lines-more, f, joined-
 first-one : (byte : ℕ) → First (byte ∷ [])
 first-one byte = go (feed byte)
   where
-    go : Feed byte → First (byte ∷ [])
-    go (inl e) = first-closed byte [] e
-    go (inr e) = rw (length-more byte [] e, length-none, lines-more, lines-none, joined-last)
+    go : Dec (byte ≡ lineFeed) → First (byte ∷ [])
+    go (yes e) = first-closed byte [] e
+    go (no e) = rw (length-more byte [] e, length-none, lines-more, lines-none, joined-last)
 
 first : (byte : ℕ) (sheet : List ℕ) → First (byte ∷ sheet)
 first byte [] = first-one byte
 first byte (next ∷ sheet) = go (feed byte) (first next sheet)
   where
-    go : Feed byte → First (next ∷ sheet) → First (byte ∷ next ∷ sheet)
-    go (inl e) f = first-closed byte (next ∷ sheet) e
-    go (inr e) f = first-more byte (next ∷ sheet) e f
+    go : Dec (byte ≡ lineFeed) → First (next ∷ sheet) → First (byte ∷ next ∷ sheet)
+    go (yes e) f = first-closed byte (next ∷ sheet) e
+    go (no e) f = first-more byte (next ∷ sheet) e f
 
 lines-some : (sheet : List ℕ) → 0 < length sheet → First sheet
 lines-some [] h = absurd (omega arith)
@@ -108,17 +101,17 @@ length-some : (sheet : List ℕ) → 0 < length sheet → 0 < lineLength sheet
 length-some [] h = absurd (omega arith)
 length-some (byte ∷ sheet) h = go (feed byte)
   where
-    go : Feed byte → 0 < lineLength (byte ∷ sheet)
-    go (inl e) = omega (arith, length-closed byte sheet e)
-    go (inr e) = omega (arith, length-more byte sheet e)
+    go : Dec (byte ≡ lineFeed) → 0 < lineLength (byte ∷ sheet)
+    go (yes e) = omega (arith, length-closed byte sheet e)
+    go (no e) = omega (arith, length-more byte sheet e)
 
 length-within : (sheet : List ℕ) → lineLength sheet ≤ length sheet
 length-within [] = omega (arith, length-none)
 length-within (byte ∷ sheet) = step (feed byte) (length-within sheet)
   where
-    step : Feed byte → lineLength sheet ≤ length sheet → lineLength (byte ∷ sheet) ≤ suc (length sheet)
-    step (inl e) h = omega (arith, length-closed byte sheet e)
-    step (inr e) h = omega (arith, length-more byte sheet e)
+    step : Dec (byte ≡ lineFeed) → lineLength sheet ≤ length sheet → lineLength (byte ∷ sheet) ≤ suc (length sheet)
+    step (yes e) h = omega (arith, length-closed byte sheet e)
+    step (no e) h = omega (arith, length-more byte sheet e)
 
 -- ---- Each is a line
 
@@ -149,9 +142,9 @@ are-joined byte (line ∷ lines) a = go (feed byte) lines a
     more e [] a = line-more byte line e a
     more e (next ∷ lines) a = (line-more byte line e (a .0), last-more byte line (a .0 .some) ∙ a .1, a .2)
 
-    go : Feed byte → (lines : List (List ℕ)) → AreLines (line ∷ lines) → AreLines (joined byte (line ∷ lines))
-    go (inl e) lines a = rw (joined-closed byte (line ∷ lines) e) (line-one byte, e, a)
-    go (inr e) lines a = rw (joined-more byte line lines e) (more e lines a)
+    go : Dec (byte ≡ lineFeed) → (lines : List (List ℕ)) → AreLines (line ∷ lines) → AreLines (joined byte (line ∷ lines))
+    go (yes e) lines a = rw (joined-closed byte (line ∷ lines) e) (line-one byte, e, a)
+    go (no e) lines a = rw (joined-more byte line lines e) (more e lines a)
 
 are-lines : (sheet : List ℕ) → AreLines (linesOf sheet)
 are-lines [] = rw lines-none tt
@@ -163,9 +156,9 @@ up-joined : (byte : ℕ) (lines : List (List ℕ)) → joinedUp (joined byte lin
 up-joined byte [] = rw joined-last
 up-joined byte (line ∷ lines) = go (feed byte)
   where
-    go : Feed byte → joinedUp (joined byte (line ∷ lines)) ≡ byte ∷ line ++ joinedUp lines
-    go (inl e) = rw (joined-closed byte (line ∷ lines) e)
-    go (inr e) = rw (joined-more byte line lines e)
+    go : Dec (byte ≡ lineFeed) → joinedUp (joined byte (line ∷ lines)) ≡ byte ∷ line ++ joinedUp lines
+    go (yes e) = rw (joined-closed byte (line ∷ lines) e)
+    go (no e) = rw (joined-more byte line lines e)
 
 whole : (sheet : List ℕ) → joinedUp (linesOf sheet) ≡ sheet
 whole [] = rw lines-none

@@ -8,7 +8,7 @@ use native.Mathlib.Omega.{arith}
 use lib.ListN.{length, List·getD-eq-default}
 use Rattle.hexadecimal.specs.Text.{Text, bytes, wrong, textOf}
 use Rattle.frame_reader.specs.Frames.{refused, kindOf, rightLength, saidAs, saidWith, saidIn, saidBy}
-use Rattle.frame_reader.specs.Claims.{Malformed, empty, not-closed, wrong-digit, odd-digits, unknown-kind, wrong-length, RefusalRule}
+use Rattle.frame_reader.specs.Claims.{IsMalformed, empty, not-closed, wrong-digit, odd-digits, unknown-kind, wrong-length, RefusalRule}
 use Rattle.frame_reader.proofs.Outcomes.{Right, Unread, unclosed, no-digit, odd, Outcome, right, unread, outcome}
 use Rattle.frame_reader.proofs.Readings.{said-right, said-wrong}
 
@@ -36,7 +36,7 @@ kind-wrong kind n (inr h) = rw List·getD-eq-default
 rest-size : (line rest : List ℕ) (kind : ℕ) → Right line (kind ∷ rest) → (length line - 1) / 2 - 1 ≡ length rest
 rest-size line rest kind r = omega (arith, r .size)
 
-refuses-right : (line frame : List ℕ) → Right line frame → Malformed line → saidWith frame ≡ refused 5
+refuses-right : (line frame : List ℕ) → Right line frame → IsMalformed line → saidWith frame ≡ refused 5
 unfolding saidWith
 refuses-right line [] r m = refl
 refuses-right line (kind ∷ rest) r (empty h) = absurd (omega (arith, r .size))
@@ -46,24 +46,24 @@ refuses-right line (kind ∷ rest) r (odd-digits e) = absurd (omega (arith, r .s
 refuses-right line (kind ∷ rest) r (unknown-kind h) = said-wrong kind rest (kind-wrong kind (length rest) (rw (← r .kind (omega arith)) at h))
 refuses-right line (kind ∷ rest) r (wrong-length e) = said-wrong kind rest (rw (← r .kind (omega arith), rest-size line rest kind r) at e)
 
-refuses : (line : List ℕ) (text : Text) → Outcome line text → Malformed line → saidIn text ≡ refused 5
+refuses : (line : List ℕ) (text : Text) → Outcome line text → IsMalformed line → saidIn text ≡ refused 5
 unfolding saidIn
 refuses line (bytes frame) (right r) m = refuses-right line frame r m
 refuses line wrong (unread u) m = refl
 
-because-right : (line frame : List ℕ) (number : ℕ) → Right line frame → saidWith frame ≡ refused number → (number ≡ 5) × Malformed line
+because-right : (line frame : List ℕ) (number : ℕ) → Right line frame → saidWith frame ≡ refused number → (number ≡ 5) × IsMalformed line
 unfolding saidWith
 because-right line [] number r q = (cc, empty (omega (arith, r .size)))
 because-right line (kind ∷ rest) number r q =
     let b = because-length kind rest number q in
     (b .0, wrong-length (rw (← r .kind (omega arith), rest-size line rest kind r) (b .1)))
 
-because-unread : (line : List ℕ) → Unread line → Malformed line
+because-unread : (line : List ℕ) → Unread line → IsMalformed line
 because-unread line (unclosed h) = not-closed h
 because-unread line (no-digit k h e) = wrong-digit k h e
 because-unread line (odd e) = odd-digits e
 
-because : (line : List ℕ) (text : Text) (number : ℕ) → Outcome line text → saidIn text ≡ refused number → (number ≡ 5) × Malformed line
+because : (line : List ℕ) (text : Text) (number : ℕ) → Outcome line text → saidIn text ≡ refused number → (number ≡ 5) × IsMalformed line
 unfolding saidIn
 because line (bytes frame) number (right r) q = because-right line frame number r q
 because line wrong number (unread u) q = (cc, because-unread line u)

@@ -1,22 +1,22 @@
 -- What the bytes after a kind say, and the answer for it.
-use mathlib.Core.Path.{_≡_, refl, sym, ap, _∙_}
-use mathlib.Core.Bool.{Bool, true, false, _&&_}
+use mathlib.Core.Path.{_≡_, refl, sym, _∙_}
+use mathlib.Core.Bool.{true, false}
 use mathlib.Core.List.{List, [], _∷_}
 use Prim.Native.Nat.{ℕ, zero, suc, _+_, _*_, _-_, _/_, _%_, _≤_, _<_}
 use native.Mathlib.Omega.{arith}
-use lib.Dec.{leb, eqb}
 use lib.ListN.{length, take, drop, getD, replicate}
-use lib.Seq.{take-all, take-at}
-use borrow.Author.Tests.{eq-eqb, ne-eqb, le-leb, lt-leb}
+use lib.Seq.{take-all}
+use borrow.Author.Tests.{eq-eqb, ne-eqb}
 use Rattle.frame_reader.specs.declared.Frame.{Frame}
 use Rattle.frame_reader.specs.declared.Frame.the-variants.{Malformed, Machine, Power, Admit, Retire, PlanWanted}
 use Rattle.frame_reader.specs.declared.Reading.{Reading}
 use Rattle.frame_reader.specs.declared.Decoded.{Decoded}
 use Rattle.frame_reader.specs.declared.Decoded.the-variants.{Bytes, Wrong}
 use Rattle.hexadecimal.specs.Text.{Text, bytes, wrong, textOf}
-use Rattle.frame_reader.specs.Decoding.{textIn}
-use Rattle.frame_reader.specs.Frames.{says, refused, fields, values, sum, kindOf, rightLength, widthsIn, numbersFrom, saidAs, saidWith, saidIn, saidBy, saidOf, said, besideOf, readingOf}
+use Rattle.frame_reader.specs.Decoding.{longestFrame, textIn}
+use Rattle.frame_reader.specs.Frames.{says, refused, fields, values, sum, kindOf, rightLength, widthsIn, numbersFrom, saidAs, saidWith, saidIn, saidBy, besideOf, readingOf}
 use Rattle.frame_reader.proofs.Outcomes.{text-length}
+use Rattle.frame_reader.proofs.Lengths.{fours-right, fours-wrong}
 use Rattle.frame_reader.proofs.Numbers.{one-byte, two-bytes, numbers-length, Filled}
 
 -- A frame with no values beside it.
@@ -39,11 +39,11 @@ module _ (kind : ℕ) (rest : List ℕ) where
   wrong-length e = rw (said-wrong e)
 
   module _ (widths : List ℕ) (layout : kindOf kind .layout ≡ fields widths) where
-    pub fields-right : length rest ≡ sum widths → alone (kindOf kind .frame (numbersFrom rest 0 widths)) ≡ readingOf (saidAs kind rest)
+    fields-right : length rest ≡ sum widths → alone (kindOf kind .frame (numbersFrom rest 0 widths)) ≡ readingOf (saidAs kind rest)
     unfolding rightLength widthsIn readingOf besideOf
     fields-right e = rw (said-right (rw layout (eq-eqb _ _ e)), layout)
 
-    pub fields-wrong : (length rest ≡ sum widths → ⊥) → alone Malformed ≡ readingOf (saidAs kind rest)
+    fields-wrong : (length rest ≡ sum widths → ⊥) → alone Malformed ≡ readingOf (saidAs kind rest)
     unfolding rightLength
     fields-wrong e = wrong-length (rw layout (ne-eqb _ _ e))
 
@@ -89,29 +89,19 @@ module _ (rest : List ℕ) where
   plan-wrong = fields-wrong 5 rest [] refl
 
   -- Not 4 to 128 bytes in fours.
-  pub power-short : length rest < 4 → alone Malformed ≡ readingOf (saidAs 2 rest)
-  unfolding kindOf rightLength
-  power-short h = wrong-length 2 rest (rw (lt-leb 4 (length rest) h))
-
-  pub power-long : 128 < length rest → alone Malformed ≡ readingOf (saidAs 2 rest)
-  unfolding kindOf rightLength
-  power-long h = wrong-length 2 rest (rw (le-leb 4 (length rest) (omega arith), lt-leb (length rest) 128 h))
-
-  pub power-uneven : 4 ≤ length rest → length rest ≤ 128 → (length rest % 4 ≡ 0 → ⊥) → alone Malformed ≡ readingOf (saidAs 2 rest)
-  unfolding kindOf rightLength
-  power-uneven h k e = wrong-length 2 rest (rw (le-leb 4 (length rest) h, le-leb (length rest) 128 k, ne-eqb (length rest % 4) 0 e))
+  pub power-wrong : ((4 ≤ length rest) × (length rest ≤ 128) × (length rest % 4 ≡ 0) → ⊥) → alone Malformed ≡ readingOf (saidAs 2 rest)
+  power-wrong h = wrong-length 2 rest (fours-wrong (length rest) h)
 
   pub power-right : (count : ℕ) (beside : List ℕ) → 4 ≤ length rest → length rest ≤ 128 → length rest % 4 ≡ 0 → count ≡ length rest / 4
-      → Filled rest beside count → record { frame = Power count; values = beside } ≡ readingOf (saidAs 2 rest)
-  unfolding kindOf rightLength widthsIn readingOf besideOf
+      → Filled rest 4 beside count → record { frame = Power count; values = beside } ≡ readingOf (saidAs 2 rest)
+  unfolding kindOf widthsIn readingOf besideOf
   power-right count beside h k e ec filled =
-      let fit = said-right 2 rest (rw (le-leb 4 (length rest) h, le-leb (length rest) 128 k, eq-eqb (length rest % 4) 0 e)) in
-      rw (fit, ← ec, numbers-length rest 0 count, filled)
+      rw (said-right 2 rest (fours-right (length rest) h k e), ← ec, numbers-length rest 4 0 count, filled)
 
 -- ---- Any kind
 
 -- By the table's places, and past its end.
-each-kind : (P : ℕ → Type 0) → P 0 → P 1 → P 2 → P 3 → P 4 → P 5 → ((more : ℕ) → P (suc (suc (suc (suc (suc (suc more))))))) → (kind : ℕ) → P kind
+pub each-kind : (P : ℕ → Type 0) → P 0 → P 1 → P 2 → P 3 → P 4 → P 5 → ((more : ℕ) → P (suc (suc (suc (suc (suc (suc more))))))) → (kind : ℕ) → P kind
 each-kind P p0 p1 p2 p3 p4 p5 past zero = p0
 each-kind P p0 p1 p2 p3 p4 p5 past (suc zero) = p1
 each-kind P p0 p1 p2 p3 p4 p5 past (suc (suc zero)) = p2
@@ -139,62 +129,23 @@ unknown-kind kind rest =
     (λ more n1 n2 n3 n4 n5. wrong-length _ rest refl)
     kind
 
--- More than 128 bytes after a kind are no frame.
-too-long : (n : ℕ) → 128 < n → (kind : ℕ) → rightLength (kindOf kind .layout) n ≡ false
+-- As many bytes as the longest frame has are too many after a kind.
+too-long : (n : ℕ) → longestFrame ≤ n → (kind : ℕ) → rightLength (kindOf kind .layout) n ≡ false
 unfolding kindOf rightLength
 too-long n h =
     each-kind (λ kind. rightLength (kindOf kind .layout) n ≡ false)
     refl
     (ne-eqb n 6 (λ e. omega arith))
-    (rw (le-leb 4 n (omega arith), lt-leb n 128 h))
+    (fours-wrong n (λ p. omega arith))
     (ne-eqb n 6 (λ e. omega arith))
     (ne-eqb n 2 (λ e. omega arith))
     (ne-eqb n 0 (λ e. omega arith))
     (λ more. refl)
 
-long-frame : (frame : List ℕ) → 129 < length frame → alone Malformed ≡ readingOf (saidWith frame)
+long-frame : (frame : List ℕ) → longestFrame < length frame → alone Malformed ≡ readingOf (saidWith frame)
 unfolding saidWith
 long-frame [] h = absurd (omega arith)
 long-frame (kind ∷ rest) h = wrong-length kind rest (too-long (length rest) (omega arith) kind)
-
--- ---- What an answer says is what the line says
-
-faithful-test : (test : Bool) (kind : ℕ) (numbers : List ℕ) → said (readingOf (says kind numbers)) ≡ says kind numbers
-    → said (readingOf (elim test [ true ↦ says kind numbers | false ↦ refused 5 ])) ≡ elim test [ true ↦ says kind numbers | false ↦ refused 5 ]
-unfolding said saidOf readingOf
-faithful-test true kind numbers e = e
-faithful-test false kind numbers e = refl
-
--- Every kind holds its numbers in places of its own.
-faithful-as : (kind : ℕ) (rest : List ℕ) → said (readingOf (saidAs kind rest)) ≡ saidAs kind rest
-unfolding saidAs kindOf rightLength widthsIn numbersFrom said saidOf readingOf besideOf
-faithful-as kind rest =
-    each-kind (λ k. said (readingOf (saidAs k rest)) ≡ saidAs k rest)
-    refl
-    (faithful-test (eqb (length rest) 6) 1 _ refl)
-    (faithful-test (leb 4 (length rest) && leb (length rest) 128 && eqb (length rest % 4) 0) 2 ns (ap (says 2) (take-at ns (replicate (32 - length ns) 0) (length ns) refl)))
-    (faithful-test (eqb (length rest) 6) 3 _ refl)
-    (faithful-test (eqb (length rest) 2) 4 _ refl)
-    (faithful-test (eqb (length rest) 0) 5 _ refl)
-    (λ more. refl)
-    kind
-  where
-    ns : List ℕ
-    ns = numbersFrom rest 0 (replicate (length rest / 4) 4)
-
-faithful-in : (text : Text) → said (readingOf (saidIn text)) ≡ saidIn text
-unfolding saidIn saidWith said saidOf readingOf
-faithful-in wrong = refl
-faithful-in (bytes []) = refl
-faithful-in (bytes (kind ∷ rest)) = faithful-as kind rest
-
-pub faithful : (line : List ℕ) → said (readingOf (saidBy line)) ≡ saidBy line
-unfolding saidBy
-faithful line = faithful-in (textOf line)
-
--- Of an answer that is the reading of a line.
-pub as-said : (line : List ℕ) (reading : Reading) → reading ≡ readingOf (saidBy line) → (reading ≡ readingOf (saidBy line)) × (said reading ≡ saidBy line)
-as-said line reading e = (e, ap said e ∙ faithful line)
 
 -- ---- A line
 
@@ -209,13 +160,13 @@ unfolding saidWith
 some-bytes [] kind h e = absurd (omega arith)
 some-bytes (first ∷ rest) kind h e = rw (e, take-all (suc (length rest) - 1) rest (omega arith))
 
-long-text : (line : List ℕ) (text : Text) → textOf line ≡ text → 259 < length line → alone Malformed ≡ readingOf (saidIn text)
+long-text : (line : List ℕ) (text : Text) → textOf line ≡ text → 2 * longestFrame + 1 < length line → alone Malformed ≡ readingOf (saidIn text)
 unfolding saidIn readingOf
 long-text line wrong e h = refl
 long-text line (bytes frame) e h = long-frame frame (omega (arith, text-length line frame e))
 
 -- A line longer than that of the longest frame.
-pub long-line : (line : List ℕ) → 259 < length line → alone Malformed ≡ readingOf (saidBy line)
+pub long-line : (line : List ℕ) → 2 * longestFrame + 1 < length line → alone Malformed ≡ readingOf (saidBy line)
 unfolding saidBy
 long-line line h = long-text line (textOf line) refl h
 

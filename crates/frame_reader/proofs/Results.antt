@@ -3,8 +3,8 @@ use Rattle.frame_reader.specs.Claims.{Reads}
 use Rattle.frame_reader.proofs.Lines.{line-rule}
 use Rattle.frame_reader.proofs.Malformed.{refusal-rule}
 use Rattle.frame_reader.proofs.Lengths.{length-rule}
-use Rattle.frame_reader.proofs.Readings.{faithful}
-use Rattle.frame_reader.proofs.Examples.{frame-trials}
+use Rattle.frame_reader.proofs.Answers.{faithful, answer-rule, count-rule}
+use Rattle.frame_reader.proofs.Examples.{line-trials, frame-trials}
 
 pub reads : Reads
 reads = record {
@@ -12,5 +12,8 @@ reads = record {
   refusal-rule = refusal-rule;
   length-rule = length-rule;
   faithful = faithful;
+  answer-rule = answer-rule;
+  count-rule = count-rule;
+  line-trials = line-trials;
   frame-trials = frame-trials;
 }

@@ -6,6 +6,8 @@ use mathlib.Core.Bool.{true, false}
 use mathlib.Core.List.{List, [], _∷_, _++_, map}
 use lib.ListN.{length, take, drop, getD}
 use Rattle.hexadecimal.specs.Text.{lineFeed, valueOf}
+use Rattle.frame_reader.specs.declared.Frame.the-variants.{Malformed, Machine, Power, Admit, Retire, PlanWanted}
+use Rattle.frame_reader.specs.declared.Reading.{Reading}
 use Rattle.frame_reader.specs.Lines.{linesOf, lineEnd}
 use Rattle.frame_reader.specs.Frames.{says, refused, kindOf, rightLength, saidBy, said, readingOf}
 
@@ -44,24 +46,24 @@ pub record LineRule (sheet : List ℕ) : Type 0 where
 
 -- ---- Refusal 5
 
--- The byte of two digits of a line, counted in bytes from 0.
-abbrev pub byteAt : List ℕ → ℕ → ℕ
-byteAt line k = valueOf (getD line (2 * k) 0) * 16 + valueOf (getD line (2 * k + 1) 0)
+-- The byte of the first two digits of a line.
+abbrev pub kindByte : List ℕ → ℕ
+kindByte line = valueOf (getD line 0 0) * 16 + valueOf (getD line 1 0)
 
 -- "A malformed line: empty, not closed by 0A, a wrong digit, an odd number of digits, an unknown kind, a wrong length." A line of n bytes has
 -- n − 1 digits before its 0A, and (n − 1) / 2 − 1 bytes after its kind.
-pub data Malformed (line : List ℕ) : Type 0 where
-  empty : length line ≤ 1 → Malformed line
-  not-closed : (Closed line → ⊥) → Malformed line
-  wrong-digit : (k : ℕ) → suc k < length line → valueOf (getD line k 0) ≡ 16 → Malformed line
-  odd-digits : (length line - 1) % 2 ≡ 1 → Malformed line
-  unknown-kind : (byteAt line 0 < 1) ⊎ (5 < byteAt line 0) → Malformed line
-  wrong-length : rightLength (kindOf (byteAt line 0) .layout) ((length line - 1) / 2 - 1) ≡ false → Malformed line
+pub data IsMalformed (line : List ℕ) : Type 0 where
+  empty : length line ≤ 1 → IsMalformed line
+  not-closed : (Closed line → ⊥) → IsMalformed line
+  wrong-digit : (k : ℕ) → suc k < length line → valueOf (getD line k 0) ≡ 16 → IsMalformed line
+  odd-digits : (length line - 1) % 2 ≡ 1 → IsMalformed line
+  unknown-kind : (kindByte line < 1) ⊎ (5 < kindByte line) → IsMalformed line
+  wrong-length : rightLength (kindOf (kindByte line) .layout) ((length line - 1) / 2 - 1) ≡ false → IsMalformed line
 
 -- A line is refused by 5 exactly when it is malformed, and by nothing else.
 pub record RefusalRule (line : List ℕ) : Type 0 where
-  pub refuses : Malformed line → saidBy line ≡ refused 5
-  pub because : (number : ℕ) → saidBy line ≡ refused number → (number ≡ 5) × Malformed line
+  pub refuses : IsMalformed line → saidBy line ≡ refused 5
+  pub because : (number : ℕ) → saidBy line ≡ refused number → (number ≡ 5) × IsMalformed line
 
 -- The right numbers of bytes after each kind.
 pub record LengthRule (n : ℕ) : Type 0 where
@@ -78,9 +80,22 @@ pub record LengthRule (n : ℕ) : Type 0 where
 abbrev pub Faithful : Type 0
 Faithful = (line : List ℕ) → said (readingOf (saidBy line)) ≡ saidBy line
 
+-- What each case of an answer says.
+pub record AnswerRule (reading : Reading) : Type 0 where
+  pub malformed : reading .frame ≡ Malformed → said reading ≡ refused 5
+  pub machine : (m l b d : ℕ) → reading .frame ≡ Machine m l b d → said reading ≡ says 1 (m ∷ l ∷ b ∷ d ∷ [])
+  pub power : (count : ℕ) → reading .frame ≡ Power count → said reading ≡ says 2 (take count (reading .values))
+  pub admit : (id cost period : ℕ) → reading .frame ≡ Admit id cost period → said reading ≡ says 3 (id ∷ cost ∷ period ∷ [])
+  pub retire : (id : ℕ) → reading .frame ≡ Retire id → said reading ≡ says 4 (id ∷ [])
+  pub plan-wanted : reading .frame ≡ PlanWanted → said reading ≡ says 5 []
+
+-- The values of a power frame are 1 to 32.
+abbrev pub CountRule : Type 0
+CountRule = (line : List ℕ) (count : ℕ) → readingOf (saidBy line) .frame ≡ Power count → (1 ≤ count) × (count ≤ 32)
+
 -- 01's sheet.
-unfoldable pub sheet : List ℕ
-sheet =
+unfoldable pub exampleSheet : List ℕ
+exampleSheet =
     48 ∷ 49 ∷ 48 ∷ 52 ∷ 48 ∷ 52 ∷ 48 ∷ 48 ∷ 48 ∷ 49 ∷ 48 ∷ 48 ∷ 48 ∷ 49 ∷ 10
     ∷ 48 ∷ 51 ∷ 48 ∷ 48 ∷ 48 ∷ 49 ∷ 48 ∷ 48 ∷ 48 ∷ 65 ∷ 48 ∷ 48 ∷ 48 ∷ 65 ∷ 10
     ∷ 48 ∷ 51 ∷ 48 ∷ 48 ∷ 48 ∷ 50 ∷ 48 ∷ 48 ∷ 48 ∷ 57 ∷ 48 ∷ 48 ∷ 48 ∷ 65 ∷ 10
@@ -97,10 +112,15 @@ wideNumbers =
     ∷ 48 ∷ 50 ∷ 48 ∷ 48 ∷ 48 ∷ 48 ∷ 48 ∷ 48 ∷ 49 ∷ 50 ∷ 48 ∷ 49 ∷ 48 ∷ 50 ∷ 48 ∷ 51 ∷ 48 ∷ 52 ∷ 48 ∷ 48 ∷ 70 ∷ 70 ∷ 70 ∷ 70 ∷ 70 ∷ 70 ∷ 10
     ∷ 48 ∷ 52 ∷ 70 ∷ 70 ∷ 102 ∷ 101 ∷ 10 ∷ []
 
+-- 05 and then 0 without its 0A; and two empty lines.
+pub record LineTrials : Type 0 where
+  pub unclosed : linesOf (48 ∷ 53 ∷ 10 ∷ 48 ∷ []) ≡ (48 ∷ 53 ∷ 10 ∷ []) ∷ (48 ∷ []) ∷ []
+  pub empty : linesOf (10 ∷ 10 ∷ []) ≡ (10 ∷ []) ∷ (10 ∷ []) ∷ []
+
 pub record FrameTrials : Type 0 where
   -- Seven lines of 15 bytes and one of 3: the line at a position, at a 0A, at the end of the sheet and past it.
-  pub sheet-ends : map (lineEnd sheet) (0 ∷ 14 ∷ 15 ∷ 105 ∷ 108 ∷ 109 ∷ []) ≡ 15 ∷ 15 ∷ 30 ∷ 108 ∷ 108 ∷ 109 ∷ []
-  pub sheet-says : map saidBy (linesOf sheet)
+  pub sheet-ends : map (lineEnd exampleSheet) (0 ∷ 14 ∷ 15 ∷ 105 ∷ 108 ∷ 109 ∷ []) ≡ 15 ∷ 15 ∷ 30 ∷ 108 ∷ 108 ∷ 109 ∷ []
+  pub sheet-says : map saidBy (linesOf exampleSheet)
       ≡ says 1 (4 ∷ 4 ∷ 1 ∷ 1 ∷ []) ∷ says 3 (1 ∷ 10 ∷ 10 ∷ []) ∷ says 3 (2 ∷ 9 ∷ 10 ∷ []) ∷ says 3 (3 ∷ 6 ∷ 10 ∷ []) ∷ says 3 (4 ∷ 5 ∷ 10 ∷ [])
       ∷ says 3 (5 ∷ 1 ∷ 10 ∷ []) ∷ says 3 (6 ∷ 11 ∷ 10 ∷ []) ∷ says 5 [] ∷ []
   pub wide-numbers : map saidBy (linesOf wideNumbers)
@@ -111,4 +131,7 @@ pub record Reads : Type 0 where
   pub refusal-rule : (line : List ℕ) → RefusalRule line
   pub length-rule : (n : ℕ) → LengthRule n
   pub faithful : Faithful
+  pub answer-rule : (reading : Reading) → AnswerRule reading
+  pub count-rule : CountRule
+  pub line-trials : LineTrials
   pub frame-trials : FrameTrials

@@ -34,23 +34,23 @@ pub record Kind : Type 0 where
 abbrev nth : List ℕ → ℕ → ℕ
 nth numbers place = getD numbers place 0
 
--- "01 machine: m (1 byte), L (1), b (2), d (2)".
+-- "01 machine": "m (1 byte), L (1), b (2), d (2)".
 abbrev pub machine : Kind
 machine = record { layout = fields (1 ∷ 1 ∷ 2 ∷ 2 ∷ []); frame = λ ns. Machine (nth ns 0) (nth ns 1) (nth ns 2) (nth ns 3) }
 
--- "02 power: L values of 4 bytes". "For kind 02 wrong means not 4 to 128 bytes in fours after the kind." The values stand beside the frame.
+-- "02 power": "L values of 4 bytes". "For kind 02 wrong means not 4 to 128 bytes in fours after the kind." The values stand beside the frame.
 abbrev pub power : Kind
 power = record { layout = values 4 4 128; frame = λ ns. Power (length ns) }
 
--- "03 admit: id (2), C (2), T (2)".
+-- "03 admit": "id (2), C (2), T (2)".
 abbrev pub admit : Kind
 admit = record { layout = fields (2 ∷ 2 ∷ 2 ∷ []); frame = λ ns. Admit (nth ns 0) (nth ns 1) (nth ns 2) }
 
--- "04 retire: id (2)".
+-- "04 retire": "id (2)".
 abbrev pub retire : Kind
 retire = record { layout = fields (2 ∷ []); frame = λ ns. Retire (nth ns 0) }
 
--- "05 plan wanted: nothing".
+-- "05 plan wanted": "nothing".
 abbrev pub planWanted : Kind
 planWanted = record { layout = fields []; frame = λ ns. PlanWanted }
 

@@ -6,7 +6,7 @@ use lib.Dec.{eqb}
 use lib.ListN.{drop}
 use Rattle.hexadecimal.specs.Text.{lineFeed}
 
--- A byte before the lines that follow it: 0A is a line by itself there, any other byte joins the first of them.
+-- A byte before the lines that follow it: 0A is a line by itself there, and so is a byte that nothing follows; any other joins the first line.
 unfoldable pub joined : ℕ → List (List ℕ) → List (List ℕ)
 joined byte [] = (byte ∷ []) ∷ []
 joined byte (line ∷ lines) = elim (eqb byte lineFeed) [ true ↦ (byte ∷ []) ∷ line ∷ lines | false ↦ (byte ∷ line) ∷ lines ]
@@ -21,6 +21,6 @@ unfoldable pub lineLength : List ℕ → ℕ
 lineLength [] = 0
 lineLength (byte ∷ sheet) = elim (eqb byte lineFeed) [ true ↦ 1 | false ↦ suc (lineLength sheet) ]
 
--- Where the line that starts at a position ends; past the sheet there is no line.
+-- The position after the line that starts at a position. Past the sheet there is no line, and it is that position itself.
 unfoldable pub lineEnd : List ℕ → ℕ → ℕ
 lineEnd sheet start = start + lineLength (drop start sheet)

@@ -5,7 +5,7 @@ ghost use Prim.Native.Nat.{_+_, _-_, _*_, _≤_};
 ghost use lib.ListN.{length, replicate};
 ghost use Rattle.frame_reader.specs.Lines.{lineEnd};
 ghost use Rattle.hexadecimal.specs.Text.{textOf};
-ghost use Rattle.frame_reader.specs.Decoding.{textIn, countOf};
+ghost use Rattle.frame_reader.specs.Decoding.{longestFrame, textIn, countOf};
 ghost use Rattle.frame_reader.specs.Frames.{numbersFrom, saidAs, saidWith, saidBy, said, readingOf};
 
 // The frame that a line holds. New kinds are appended.
@@ -38,7 +38,7 @@ pub struct Reading {
     pub values: [u32; 32],
 }
 
-// Where the line that starts at `start` ends, its 0A with it.
+// The position after the line that starts at `start`, its 0A with it.
 pub fn line_end(sheet: &[u8], start: usize) -> usize
     ensures { λ r. ⌜ r ≡ lineEnd (now (sheet .entry)) start ⌝ }
 {
@@ -60,8 +60,8 @@ enum Decoded {
 
 // Puts the bytes of a line's text at the start of `bytes`.
 fn decode(line: &[u8], bytes: &mut [u8]) -> Decoded
-    requires { ⌜ (length (now line) ≤ 259) × (length (now bytes) ≡ 129) ⌝ }
-    ensures { λ r. ⌜ (textIn r (now (bytes .exit)) ≡ textOf (now (line .entry))) × (countOf r ≤ 129) ⌝ }
+    requires { ⌜ (length (now line) ≤ 2 * longestFrame + 1) × (length (now bytes) ≡ longestFrame) ⌝ }
+    ensures { λ r. ⌜ (textIn r (now (bytes .exit)) ≡ textOf (now (line .entry))) × (countOf r ≤ longestFrame) ⌝ }
 {
     let mut i = 0;
     let mut count = 0;
@@ -218,17 +218,19 @@ fn read_bytes(bytes: &[u8]) -> Reading
     }
 }
 
-// Digits and 0A of the longest frame: a kind and 32 values.
-const LONGEST_LINE: usize = 259;
+// The longest frame, a kind and 32 values, in bytes; and its line, two digits a byte and the 0A.
+const LONGEST_FRAME: usize = 129;
 
-// The frame in a line, its 0A with it. A longer line holds none, so that the bytes of the others have their place.
+const LONGEST_LINE: usize = 2 * LONGEST_FRAME + 1;
+
+// The frame in a line, its 0A with it. A line longer than the longest frame's is malformed, so that a buffer of fixed size serves the others.
 pub fn read_line(line: &[u8]) -> Reading
     ensures { λ r. ⌜ (r ≡ readingOf (saidBy (now (line .entry)))) × (said r ≡ saidBy (now (line .entry))) ⌝ }
 {
     if LONGEST_LINE < line.len() {
         return alone(Frame::Malformed);
     }
-    let mut bytes = [0u8; 129];
+    let mut bytes = [0u8; LONGEST_FRAME];
     let decoded = decode(line, &mut bytes);
     match decoded {
         Decoded::Bytes(count) => read_bytes(&bytes[..count]),

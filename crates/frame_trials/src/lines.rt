@@ -84,7 +84,7 @@ fn other_bytes() {
 }
 
 fn unknown_kinds() {
-    // an unknown kind: 00, the kinds next to 05, one that is written, the last
+    // an unknown kind: 00; 06, which follows the last kind; 50, with its digits exchanged; one that is only written; the last byte
     read(b"00\n");
     read(b"06\n");
     read(b"50\n");
@@ -117,7 +117,7 @@ pub fn damaged() {
 
 // Reads a line of a kind with n zero bytes after it, and prints kind and n where that is a frame.
 fn read_zeros(kind: u8, n: usize) {
-    let mut line = [48u8; 269];
+    let mut line = [48u8; 267];
     if 132 < n {
         return;
     }

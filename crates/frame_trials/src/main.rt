@@ -1,4 +1,4 @@
-// Reads good and damaged lines of every kind and length, takes sheets apart, writes frames at the edges of pages, and prints what comes of each.
+// Reads good and damaged lines of every kind, takes sheets apart, writes frames at the edges of pages, and prints what comes of each.
 // The file `stdout` has what must be printed. It is worked out from 01 by hand: the reason of each result stands at its trial.
 mod lines;
 mod pages;

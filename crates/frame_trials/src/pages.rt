@@ -61,7 +61,7 @@ fn plan(length: usize, place: usize) {
     }
 }
 
-// Frame 81 with the largest numbers and 32 levels.
+// Frame 81 with wide numbers and 32 levels.
 fn write_longest(page: &mut [u8]) {
     let mut levels = [31; 32];
     levels[0] = 255;

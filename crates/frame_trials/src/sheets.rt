@@ -37,9 +37,10 @@ pub fn taken_apart() {
     read(b"05");
     // machine 4 4 1 1, malformed, retire 1, plan wanted: lines of any length, an empty one between them
     read(b"01040400010001\n\n040001\n05\n");
-    // lines that start past the end of a sheet of 3 bytes end where they start: 3 and 4
+    // past 3 4 18446744073709551615: a line that starts past the end of a sheet of 3 bytes ends where it starts
     print::text(b"past");
     print::number(frame_reader::line_end(b"05\n", 3) as u64);
     print::number(frame_reader::line_end(b"05\n", 4) as u64);
+    print::number(frame_reader::line_end(b"05\n", 18_446_744_073_709_551_615) as u64);
     print::text(b"\n");
 }

@@ -9,10 +9,10 @@ two x = (x / 256 % 256) ∷ (x % 256) ∷ []
 abbrev pub four : ℕ → List ℕ
 four x = (x / 16777216 % 256) ∷ (x / 65536 % 256) ∷ (x / 256 % 256) ∷ (x % 256) ∷ []
 
--- "81 plan, out: n (1), H (4), total power (4), raises (2), m level bytes".
+-- "81 plan, out": "n (1), H (4), total power (4), raises (2), m level bytes".
 abbrev pub planBytes : ℕ → ℕ → ℕ → ℕ → List ℕ → List ℕ
 planBytes jobs hyperperiod power raises levels = 129 ∷ jobs ∷ (four hyperperiod ++ (four power ++ (two raises ++ levels)))
 
--- "8E refusal, out: line number from 1 (4), refusal number (1)".
+-- "8E refusal, out": "line number from 1 (4), refusal number (1)".
 abbrev pub refusalBytes : ℕ → ℕ → List ℕ
 refusalBytes line number = 142 ∷ (four line ++ (number ∷ []))

@@ -1,3 +1,4 @@
+-- `frame_reader::admit` meets its contract: the numbers are those of its fields' widths.
 use mathlib.Core.Path.{_∙_}
 use native.Mathlib.Omega.{arith}
 use Rattle.frame_reader.proofs.Readings.{admit-right, admit-wrong}

@@ -1,3 +1,4 @@
+-- `frame_reader::machine` meets its contract: the numbers are those of its fields' widths.
 use mathlib.Core.Path.{refl, _∙_}
 use native.Mathlib.Omega.{arith}
 use Rattle.frame_reader.proofs.Readings.{machine-right, machine-wrong}

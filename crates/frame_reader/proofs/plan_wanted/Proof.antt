@@ -1,3 +1,4 @@
+-- `frame_reader::plan_wanted` meets its contract: nothing follows the kind.
 use mathlib.Core.Path.{_∙_}
 use native.Mathlib.Omega.{arith}
 use Rattle.frame_reader.proofs.Readings.{plan-right, plan-wrong}

@@ -1,6 +1,7 @@
+-- `frame_reader::power` meets its contract: 4 to 128 bytes in fours.
 use mathlib.Core.Path.{refl, _∙_}
 use native.Mathlib.Omega.{arith}
-use Rattle.frame_reader.proofs.Readings.{power-short, power-long, power-uneven, power-right}
+use Rattle.frame_reader.proofs.Readings.{power-wrong, power-right}
 use borrow.Author.Needs.{needs}
 use Rattle.frame_reader.proofs.power.Statement.{statement}
 use Rattle.frame_reader.proofs.power.Tie as tie
@@ -9,19 +10,19 @@ alone-requires : tie.Need-alone-requires
 alone-requires c κs = search needs
 
 returns : tie.Need-returns
-returns c = c .alone .ensures ∙ power-short _ (omega arith)
+returns c = c .alone .ensures ∙ power-wrong _ (λ p. omega arith)
 
 alone-requires-2 : tie.Need-alone-requires-2
 alone-requires-2 c κs = search needs
 
 returns-2 : tie.Need-returns-2
-returns-2 c = c .alone2 .ensures ∙ power-long _ (omega arith)
+returns-2 c = c .alone2 .ensures ∙ power-wrong _ (λ p. omega arith)
 
 alone-requires-3 : tie.Need-alone-requires-3
 alone-requires-3 c κs = search needs
 
 returns-3 : tie.Need-returns-3
-returns-3 c = c .alone3 .ensures ∙ power-uneven _ (omega arith) (omega arith) (c .before .if3 .taken)
+returns-3 c = c .alone3 .ensures ∙ power-wrong _ (λ p. c .before .if3 .taken (p .2))
 
 values-of-requires : tie.Need-values-of-requires
 values-of-requires c κs = search needs

@@ -1,3 +1,4 @@
+-- `frame_reader::read_bytes` meets its contract: one arm for each kind, and one for those that are none.
 use mathlib.Core.Path.{_≡_, refl, ap, _∙_}
 use mathlib.Core.Logic.{⊎-elim}
 use native.Mathlib.Omega.{arith}

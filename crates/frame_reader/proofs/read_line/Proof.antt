@@ -1,8 +1,10 @@
+-- `frame_reader::read_line` meets its contract: by what was decoded.
 use mathlib.Core.Path.{_∙_}
 use native.Mathlib.Omega.{arith}
 use lib.ListN.{length-take}
 use Rattle.frame_reader.proofs.Decoding.{count-within}
-use Rattle.frame_reader.proofs.Readings.{as-said, long-line, decoded-wrong, decoded-bytes}
+use Rattle.frame_reader.proofs.Readings.{long-line, decoded-wrong, decoded-bytes}
+use Rattle.frame_reader.proofs.Answers.{as-said}
 use borrow.Author.Needs.{needs}
 use Rattle.frame_reader.proofs.read_line.Statement.{statement}
 use Rattle.frame_reader.proofs.read_line.Tie as tie

@@ -1,3 +1,4 @@
+-- `frame_reader::retire` meets its contract: the number is that of its field's width.
 use mathlib.Core.Path.{_∙_}
 use native.Mathlib.Omega.{arith}
 use Rattle.frame_reader.proofs.Readings.{retire-right, retire-wrong}

@@ -1,3 +1,4 @@
+-- `frame_reader::values_of` meets its contract: the first i places have their numbers, and the others zeros.
 use mathlib.Core.Path.{_≡_, refl, sym, _∙_}
 use Prim.Native.Nat.{_*_, _-_, _≤_}
 use native.Mathlib.Omega.{arith}
@@ -8,7 +9,7 @@ use Rattle.frame_reader.proofs.values_of.Statement.{statement}
 use Rattle.frame_reader.proofs.values_of.Tie as tie
 
 abbrev Inv-loop : tie.InvT-loop
-Inv-loop rest count values₀ i₀ values i = (i ≤ count) × (length values ≡ 32) × Filled rest values i
+Inv-loop rest count values₀ i₀ values i = (i ≤ count) × (length values ≡ 32) × Filled rest 4 values i
 
 abbrev μ-loop : tie.MeasureT-loop
 μ-loop rest count values₀ i₀ values i = count - i
@@ -61,7 +62,7 @@ loop-again c =
     let l = c .before .before .before .before .before .before .loop in (
       omega arith,
       simp length-set (omega arith),
-      filled-more _ (l .values) (l .i) (c .four .result) (omega arith) (l .inv .2) (c .four .ensures ∙ sym (four-bytes _ (4 * l .i))),
+      filled-more _ 4 (l .values) (l .i) (c .four .result) (omega arith) (l .inv .2) (c .four .ensures ∙ sym (four-bytes _ (4 * l .i))),
     )
 
 returns : tie.Need-returns Inv-loop μ-loop

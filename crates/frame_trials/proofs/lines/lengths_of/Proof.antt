@@ -1,3 +1,4 @@
+-- The loop ends.
 use Prim.Native.Nat.{_-_}
 use native.Mathlib.Omega.{arith}
 use Rattle.frame_trials.proofs.lines.lengths_of.Statement.{statement}

@@ -1,4 +1,4 @@
-use Prim.Native.Nat.{_-_}
+-- The line has its place in the array.
 use native.Mathlib.Omega.{arith}
 use lib.ListN.{length-take, length-set}
 use borrow.Author.Needs.{needs}

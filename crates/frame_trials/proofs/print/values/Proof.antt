@@ -1,3 +1,4 @@
+-- The loop ends, within the array.
 use Prim.Native.Nat.{_-_}
 use native.Mathlib.Omega.{arith}
 use borrow.Author.Needs.{needs}

@@ -1,3 +1,4 @@
+-- Each line ends within the sheet and past its start, so the loop ends.
 use mathlib.Core.Path.{refl}
 use Prim.Native.Nat.{_-_, _≤_}
 use native.Mathlib.Omega.{arith}
