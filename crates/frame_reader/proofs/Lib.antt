@@ -1,4 +1,4 @@
-pub mod Examples
+pub mod AcceptanceTrials
 pub mod Lines
 pub mod Outcomes
 pub mod Decoding

@@ -4,7 +4,7 @@ use Rattle.frame_reader.proofs.Lines.{line-rule}
 use Rattle.frame_reader.proofs.Malformed.{refusal-rule}
 use Rattle.frame_reader.proofs.Lengths.{length-rule}
 use Rattle.frame_reader.proofs.Answers.{faithful, answer-rule, count-rule}
-use Rattle.frame_reader.proofs.Examples.{line-trials, frame-trials}
+use Rattle.frame_reader.proofs.AcceptanceTrials.{line-trials, frame-trials}
 
 pub reads : Reads
 reads = record {
