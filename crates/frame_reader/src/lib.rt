@@ -118,6 +118,7 @@ const ADMIT_BYTES: usize = 6;
 
 const RETIRE_BYTES: usize = 2;
 
+// Kind 01: m (1 byte), L (1), b (2), d (2).
 fn machine(rest: &[u8]) -> Reading
     ensures { λ r. ⌜ r ≡ readingOf (saidAs 1 (now (rest .entry))) ⌝ }
 {
@@ -145,6 +146,7 @@ fn values_of(rest: &[u8], count: usize) -> [u32; 32]
     values
 }
 
+// Kind 02: values of 4 bytes, 4 to 128 bytes in all.
 fn power(rest: &[u8]) -> Reading
     ensures { λ r. ⌜ r ≡ readingOf (saidAs 2 (now (rest .entry))) ⌝ }
 {
@@ -166,6 +168,7 @@ fn power(rest: &[u8]) -> Reading
     }
 }
 
+// Kind 03: id (2), C (2), T (2).
 fn admit(rest: &[u8]) -> Reading
     ensures { λ r. ⌜ r ≡ readingOf (saidAs 3 (now (rest .entry))) ⌝ }
 {
@@ -179,6 +182,7 @@ fn admit(rest: &[u8]) -> Reading
     })
 }
 
+// Kind 04: id (2).
 fn retire(rest: &[u8]) -> Reading
     ensures { λ r. ⌜ r ≡ readingOf (saidAs 4 (now (rest .entry))) ⌝ }
 {
@@ -190,6 +194,7 @@ fn retire(rest: &[u8]) -> Reading
     })
 }
 
+// Kind 05: nothing.
 fn plan_wanted(rest: &[u8]) -> Reading
     ensures { λ r. ⌜ r ≡ readingOf (saidAs 5 (now (rest .entry))) ⌝ }
 {

@@ -1,7 +1,7 @@
 // Frames as lines of hexadecimal, written into a page from a place on. The definitions are in specs/.
 ghost use mathlib.Core.Path.{_≡_};
 ghost use mathlib.Core.List.{_++_};
-ghost use Prim.Native.Nat.{_+_, _*_, _/_, _%_, _≤_, _<_};
+ghost use Prim.Native.Nat.{_*_, _≤_};
 ghost use lib.ListN.{length, drop};
 ghost use Rattle.hexadecimal.specs.Text.{digitsOf, lineOf};
 ghost use Rattle.frame_writer.specs.Frames.{planBytes, refusalBytes};
