@@ -2,18 +2,17 @@
 use mathlib.Core.Path.{_∙_}
 use native.Mathlib.Omega.{arith}
 use Rattle.frame_reader.proofs.Readings.{plan-right, plan-wrong}
-use borrow.Author.Needs.{needs}
 use Rattle.frame_reader.proofs.plan_wanted.Statement.{statement}
 use Rattle.frame_reader.proofs.plan_wanted.Tie as tie
 
 alone-requires : tie.Need-alone-requires
-alone-requires c κs = search needs
+alone-requires c κs = tt
 
 returns : tie.Need-returns
 returns c = c .alone .ensures ∙ plan-wrong _ (c .before .if1 .taken)
 
 alone-requires-2 : tie.Need-alone-requires-2
-alone-requires-2 c κs = search needs
+alone-requires-2 c κs = tt
 
 returns-2 : tie.Need-returns-2
 returns-2 c = c .alone2 .ensures ∙ plan-right _ (omega arith)

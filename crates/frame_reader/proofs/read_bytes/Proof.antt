@@ -5,45 +5,44 @@ use native.Mathlib.Omega.{arith}
 use lib.ListN.{getD}
 use Rattle.frame_reader.specs.Frames.{saidAs, saidWith, readingOf}
 use Rattle.frame_reader.proofs.Readings.{no-bytes, some-bytes, kind-zero, unknown-kind}
-use borrow.Author.Needs.{needs}
 use Rattle.frame_reader.proofs.read_bytes.Statement.{statement}
 use Rattle.frame_reader.proofs.read_bytes.Tie as tie
 
 alone-requires : tie.Need-alone-requires
-alone-requires c κs = search needs
+alone-requires c κs = tt
 
 returns : tie.Need-returns
 returns c = c .alone .ensures ∙ no-bytes _ (omega arith)
 
 shared-slice-read-kind : tie.Need-shared-slice-read-kind
-shared-slice-read-kind c = search needs
+shared-slice-read-kind c = omega arith
 
 sub-rest : tie.Need-sub-rest
-sub-rest c = search needs
+sub-rest c = omega arith
 
 part-rest-start : tie.Need-part-rest-start
-part-rest-start c = search needs
+part-rest-start c = omega arith
 
 part-rest-end : tie.Need-part-rest-end
-part-rest-end c = search needs
+part-rest-end c = omega arith
 
 machine-requires : tie.Need-machine-requires
-machine-requires c κs = search needs
+machine-requires c κs = tt
 
 power-requires : tie.Need-power-requires
-power-requires c κs = search needs
+power-requires c κs = tt
 
 admit-requires : tie.Need-admit-requires
-admit-requires c κs = search needs
+admit-requires c κs = tt
 
 retire-requires : tie.Need-retire-requires
-retire-requires c κs = search needs
+retire-requires c κs = tt
 
 plan-wanted-requires : tie.Need-plan-wanted-requires
-plan-wanted-requires c κs = search needs
+plan-wanted-requires c κs = tt
 
 alone-requires-2 : tie.Need-alone-requires-2
-alone-requires-2 c κs = search needs
+alone-requires-2 c κs = tt
 
 returns-2 : tie.Need-returns-2
 returns-2 c = c .machine .ensures ∙ ap readingOf (some-bytes _ 1 (omega arith) (c .before .match .keys1))

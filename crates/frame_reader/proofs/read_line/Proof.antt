@@ -10,7 +10,7 @@ use Rattle.frame_reader.proofs.read_line.Statement.{statement}
 use Rattle.frame_reader.proofs.read_line.Tie as tie
 
 alone-requires : tie.Need-alone-requires
-alone-requires c κs = search needs
+alone-requires c κs = tt
 
 returns : tie.Need-returns
 returns c = as-said _ _ (c .alone .ensures ∙ long-line _ (omega arith))
@@ -19,7 +19,7 @@ slice-aggregate-decode : tie.Need-slice-aggregate-decode
 slice-aggregate-decode c = search needs
 
 decode-requires : tie.Need-decode-requires
-decode-requires c κs = search needs
+decode-requires c κs = omega arith
 
 enum-known-decoded : tie.Need-enum-known-decoded
 enum-known-decoded c = search needs
@@ -35,13 +35,13 @@ slice-aggregate-read-bytes c =
     simp length-take (omega (arith, count-within (d .result) _ (c .before .before .decoded .given .1) (d .ensures .1), d .kept))
 
 read-bytes-requires : tie.Need-read-bytes-requires
-read-bytes-requires c κs = search needs
+read-bytes-requires c κs = tt
 
 enum-told : tie.Need-enum-told
 enum-told c = search needs
 
 alone-requires-2 : tie.Need-alone-requires-2
-alone-requires-2 c κs = search needs
+alone-requires-2 c κs = tt
 
 returns-2 : tie.Need-returns-2
 returns-2 c =
