@@ -11,7 +11,6 @@ pub mod Hyperperiod
 pub mod Retire
 pub mod Feasible
 pub mod Tables
-pub mod LentTable
 pub mod AcceptanceTrials
 pub mod Edges
 pub mod Results

@@ -1,4 +1,4 @@
--- `gmf::Machine::accepts` meets its contract: at each turn the numbers before place j never fall, and no rise among them shrinks.
+-- `power_tables::accepts` meets its contract: at each turn the numbers before place j never fall, and no rise among them shrinks.
 use Prim.Native.Nat.{_-_, _≤_}
 use native.Mathlib.Omega.{arith}
 use mathlib.Core.Path.{_≡_, refl}
@@ -6,11 +6,11 @@ use mathlib.Core.Logic.{_↔_}
 use mathlib.Core.Bool.{true, false, false≢true}
 use borrow.Author.Needs.{needs}
 use borrow.Author.Tests.{le-leb, leb-true}
 use Rattle.gmf.specs.Power.{powerLimit}
-use Rattle.gmf.proofs.LentTable.{Checked, checked-none, checked-begin, checked-more}
-use Rattle.gmf.proofs.LentTable.{checked-falls, checked-shrinks, checked-table, checked-limit}
-use Rattle.gmf.proofs.Machine.accepts.Statement.{statement}
-use Rattle.gmf.proofs.Machine.accepts.Tie as tie
+use Rattle.power_tables.proofs.LentTable.{Checked, checked-none, checked-begin, checked-more}
+use Rattle.power_tables.proofs.LentTable.{checked-falls, checked-shrinks, checked-table, checked-limit}
+use Rattle.power_tables.proofs.accepts.Statement.{statement}
+use Rattle.power_tables.proofs.accepts.Tie as tie
 
 abbrev Inv-loop : tie.InvT-loop
 Inv-loop table size last₀ rise₀ j₀ last rise j = Checked table last rise j × (j ≤ size)

@@ -1,13 +1,14 @@
--- `gmf::Machine::default_table` meets its contract: after j turns the first j entries stand, read at the speeds of levels 0 to j − 1.
+-- `power_tables::default_table` meets its contract: after j turns the first j entries stand, read at the speeds of levels 0 to j − 1.
 use Prim.Native.Nat.{ℕ, _≤_, _-_}
 use native.Mathlib.Omega.{arith}
 use mathlib.Core.Path.{_≡_, subst₂}
 use mathlib.Core.List.{List}
 use borrow.Author.Needs.{needs}
 use Rattle.gmf.specs.Machine.{speed}
-use Rattle.gmf.proofs.Tables.{slow, Filled, filled-begin, filled-more, filled-end}
-use Rattle.gmf.proofs.Machine.default_table.Statement.{statement}
-use Rattle.gmf.proofs.Machine.default_table.Tie as tie
+use Rattle.gmf.proofs.Tables.{slow}
+use Rattle.power_tables.proofs.Filling.{Filled, filled-begin, filled-more, filled-end}
+use Rattle.power_tables.proofs.default_table.Statement.{statement}
+use Rattle.power_tables.proofs.default_table.Tie as tie
 
 abbrev Inv-loop : tie.InvT-loop
 Inv-loop numbers levels step table₀ lowest j₀ table speed j = (j ≤ levels) × Filled numbers lowest step table speed j
@@ -42,7 +43,7 @@ within : (c : tie.In-loop Inv-loop μ-loop) → c .before .loop .speed ≤ 256
 unfolding speed
 within c =
     let s = start (c .before) in
-    omega (arith, c .before .loop .inv .1 .at-speed, slow (s .args .self) (s .pre .top-speed) (c .before .loop .j) (c .loop-test .taken))
+    omega (arith, c .before .loop .inv .1 .at-speed, slow (s .args .machine) (s .pre .top-speed) (c .before .loop .j) (c .loop-test .taken))
 
 mul-table : tie.Need-mul-table Inv-loop μ-loop
 mul-table c = omega (arith, within c)
@@ -70,7 +71,7 @@ loop-again c = (omega arith, filled-more (omega arith) (c .before .loop .inv .1)
 
 returns : tie.Need-returns Inv-loop μ-loop
 returns c =
-    let M = start (c .before) .args .self in
+    let M = start (c .before) .args .machine in
     let last : c .before .loop .j ≡ M .levels = omega arith in
     filled-end M (subst₂ (λ (l : List ℕ) (j : ℕ). Filled l (M .lowest) (M .step) (c .before .loop .table) (c .before .loop .speed) j)
     (called (c .before) .cube-table .ensures) last (c .before .loop .inv .1))
