@@ -10,6 +10,7 @@ use Rattle.gmf.specs.declared.Machine.{Machine}
 use Rattle.gmf.specs.Machine.{speed}
 use Rattle.gmf.specs.Power.{tabulate, cubes, defaultTable}
 use Rattle.gmf.proofs.Tables.{tabulate-length}
+use Rattle.power_tables.specs.Entries.{entriesOf}
 
 pub record Filled (numbers : List ℕ) (lowest step : ℕ) (table : List ℕ) (speed j : ℕ) : Type 0 where
   pub at-speed : speed ≡ lowest + j * step
@@ -39,6 +40,6 @@ filled-more {numbers} {lowest} {step} {table} {speed} {j} h f =
     }
 
 pub filled-end : (M : Machine) {speed : ℕ} {table : List ℕ} → Filled cubes (M .lowest) (M .step) table speed (M .levels)
-    → table ≡ defaultTable M ++ replicate (32 - M .levels) 0
-unfolding defaultTable speed
-filled-end M f = f .holding
+    → table ≡ entriesOf (defaultTable M)
+unfolding defaultTable entriesOf speed
+filled-end M f = rw (tabulate-length (λ j. getD cubes (speed M j) 0) (M .levels)) (f .holding)

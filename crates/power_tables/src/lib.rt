@@ -1,14 +1,14 @@
-// Power tables of a machine (01, "Power"): the default table, the check of a lent one, and the total power of a plan. The definitions
-// are in gmf's specs/.
+// Power tables of a machine (01, "Power"): the default table, the check of a lent one, its 32 entries, and the total power of a plan. The
+// definitions are in specs/ and in gmf's specs/.
 ghost use mathlib.Core.Path.{_≡_};
 ghost use mathlib.Core.Logic.{_↔_};
 ghost use mathlib.Core.Bool.{true};
-ghost use mathlib.Core.List.{_++_};
-ghost use Prim.Native.Nat.{ℕ, _-_, _≤_, _<_};
-ghost use lib.ListN.{take, replicate};
+ghost use Prim.Native.Nat.{ℕ, _≤_, _<_};
+ghost use lib.ListN.{take};
 ghost use Rattle.gmf.specs.Machine.{InRange};
 ghost use Rattle.gmf.specs.Capacity.{level};
 ghost use Rattle.gmf.specs.Power.{power, powerLimit, IsTable, total, defaultTable};
+ghost use Rattle.power_tables.specs.Entries.{entriesOf, zeros};
 use gmf::Machine;
 
 mod cubes;
@@ -21,7 +21,7 @@ const POWER_LIMIT: u32 = 16_777_216;
 // The cube of each level's speed, and zeros from `levels` on.
 pub fn default_table(machine: Machine) -> [u32; 32]
     requires { ⌜ InRange machine ⌝ }
-    ensures { λ r. ⌜ r ≡ defaultTable machine ++ replicate (32 - machine .levels) 0 ⌝ }
+    ensures { λ r. ⌜ r ≡ entriesOf (defaultTable machine) ⌝ }
 {
     let cubes = cube_table();
     let levels = machine.levels as usize;
@@ -64,6 +64,35 @@ pub fn accepts(machine: Machine, table: &[u32]) -> bool
         last = power;
     }
     last <= POWER_LIMIT
+}
+
+// Whether every number of a lent list is 0.
+pub fn all_zero(numbers: &[u32]) -> bool
+    ensures { λ r. ⌜ r ≡ zeros (now (numbers .entry)) ⌝ }
+{
+    for j in 0..numbers.len() {
+        if numbers[j] != 0 {
+            return false;
+        }
+    }
+    true
+}
+
+// The numbers of a lent list, at most the first 32, and zeros after them.
+pub fn entries_of(numbers: &[u32]) -> [u32; 32]
+    ensures { λ r. ⌜ r ≡ take 32 (entriesOf (now (numbers .entry))) ⌝ }
+{
+    let size = numbers.len();
+    let mut entries = [0u32; 32];
+    let mut j: usize = 0;
+    while j < 32 {
+        if size <= j {
+            return entries;
+        }
+        entries[j] = numbers[j];
+        j += 1;
+    }
+    entries
 }
 
 // The total power of the first `processors` levels under a table. Even 32 times the largest power fits.

@@ -1,0 +1,9 @@
+pub mod AcceptanceTrials
+pub mod Tests
+pub mod Standing
+pub mod Padding
+pub mod Inserting
+pub mod Removing
+pub mod Answers
+pub mod Turns
+pub mod Results

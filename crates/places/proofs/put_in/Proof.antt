@@ -1,0 +1,57 @@
+-- `places::put_in` meets its contract. What the loop keeps is `Carrying`.
+use Prim.Native.Nat.{_-_}
+use native.Mathlib.Omega.{arith}
+use borrow.Author.Needs.{needs}
+use Rattle.places.proofs.Turns.{Carrying, carrying-starts, carrying-ends, carrying-turns}
+use Rattle.places.proofs.put_in.Statement.{statement}
+use Rattle.places.proofs.put_in.Tie as tie
+
+abbrev Inv-loop : tie.InvT-loop
+Inv-loop at places₀ carried₀ i₀ places carried i = Carrying at places₀ carried₀ places carried i
+
+abbrev μ-loop : tie.MeasureT-loop
+μ-loop at places₀ carried₀ i₀ places carried i = 64 - i
+
+loop-holds : tie.Need-loop-holds Inv-loop μ-loop
+loop-holds c = carrying-starts (search needs) (omega arith)
+
+mul-next : tie.Need-mul-next Inv-loop μ-loop
+mul-next c = omega arith
+
+array-copy-out-next : tie.Need-array-copy-out-next Inv-loop μ-loop
+array-copy-out-next c = omega arith
+
+mul-places : tie.Need-mul-places Inv-loop μ-loop
+mul-places c = omega arith
+
+array-set-from-places : tie.Need-array-set-from-places Inv-loop μ-loop
+array-set-from-places c = omega arith
+
+add-i : tie.Need-add-i Inv-loop μ-loop
+add-i c = omega arith
+
+loop-less : tie.Need-loop-less Inv-loop μ-loop
+loop-less c = omega arith
+
+loop-again : tie.Need-loop-again Inv-loop μ-loop
+loop-again c =
+    carrying-turns (c .before .before .loop .inv) _ _ _ (omega arith) (omega arith) (omega arith) (omega arith) (omega arith) (omega arith) (omega arith)
+
+returns : tie.Need-returns Inv-loop μ-loop
+returns c = carrying-ends (c .before .loop .inv) (omega arith)
+
+pub put-in-spec : {M : Type 1} → statement M
+put-in-spec =
+    tie.close
+    (tie.spec
+    Inv-loop
+    μ-loop
+    loop-holds
+    mul-next
+    array-copy-out-next
+    mul-places
+    array-set-from-places
+    add-i
+    loop-less
+    loop-again
+    returns)

@@ -1,0 +1,28 @@
+-- The known results, computed from the definitions.
+use mathlib.Core.Path.{refl}
+use Rattle.number.specs.Divisors.{euclid, gcd, lcm}
+use Rattle.gmf.specs.Machine.{speed, top}
+use Rattle.gmf.specs.Jobs.{window, hyperperiod, work, works}
+use Rattle.gmf.specs.Capacity.{insert, sortDescending, largest, capacity}
+use Rattle.gmf.specs.Growing.{slowest, raise, demand, holds, raisesLeft, raiseWhileFails, step, steps, growing, planOf}
+use Rattle.gmf.specs.Power.{rise, cube, tabulate, cubes, defaultTable}
+use Rattle.gmf.specs.Trials.{machine}
+use Rattle.places.specs.Ranges.{oneTo, jobFits}
+use Rattle.places.specs.Places.{has, remove}
+use Rattle.places.specs.Places as places
+use Rattle.planner.specs.Tests.{speedsFit, allBelow, isTable, tooLong, foundNone, noPlan}
+use Rattle.planner.specs.Model.{refuseIf, isOpen, onMachine, opened, weighed, admitted, retired}
+use Rattle.planner.specs.Model as model
+use Rattle.planner.specs.Calls.{refusalNumber, numberOf, outcomeNumber, after, modelNumbers, modelAfter}
+use Rattle.planner.specs.Claims.{CallTrials}
+
+pub call-trials : CallTrials
+unfolding euclid gcd lcm speed top window hyperperiod work works insert sortDescending largest capacity slowest raise demand holds raisesLeft raiseWhileFails step steps growing planOf rise cube tabulate cubes defaultTable machine oneTo jobFits has remove places.insert speedsFit allBelow isTable tooLong foundNone noPlan refuseIf isOpen onMachine opened weighed admitted retired model.step refusalNumber numberOf outcomeNumber after modelNumbers modelAfter
+call-trials = record {
+  numbers = refl;
+  sheet = refl;
+  none-open = refl;
+  one-open = refl;
+  tables = refl;
+  house-table = refl;
+}

@@ -1,0 +1,277 @@
+-- When a roster is well formed, and what it then carries.
+use Prim.Native.Nat.{ℕ, zero, suc, _+_, _-_, _≤_, _<_}
+use native.Mathlib.Decide.{decLt}
+use native.Mathlib.Omega.{arith}
+use mathlib.Core.Path.{_≡_, refl, sym, ap, ap₂, subst, _∙_}
+use mathlib.Core.Logic.{_⊎_, inl, inr}
+use mathlib.Core.Bool.{Bool, true, false, not, _&&_}
+use mathlib.Core.List.{List, [], _∷_, _++_}
+use borrow.Author.Tests.{leb-true, le-leb, eqb-true, eq-eqb, ne-eqb, not-true}
+use lib.Dec.{leb, eqb}
+use lib.ListN.{length, take, drop, replicate, take-append-drop, length-drop, length-replicate, length-append}
+use lib.Seq.{length-take-le, take-append-seam, drop-append-seam}
+use Rattle.gmf.specs.declared.Machine.{Machine}
+use Rattle.gmf.specs.declared.Job.{Job}
+use Rattle.gmf.specs.Machine.{InRange}
+use Rattle.gmf.specs.Jobs.{JobInRange, Every}
+use Rattle.gmf.specs.Trials.{machine}
+use Rattle.places.specs.Ranges.{oneTo}
+use Rattle.places.specs.Places.{noJob, placesOf, unused, listed}
+use Rattle.places.proofs.Results.{placing}
+use Rattle.power_tables.specs.Entries.{entriesOf, zeros}
+use Rattle.planner.specs.declared.Roster.{Roster}
+use Rattle.planner.specs.Model.{Model, Closed, Opened}
+use Rattle.planner.specs.Tests.{speedsFit, isTable, tooLong, noPlan}
+use Rattle.planner.specs.Roster.{emptyRoster, modelOf, rosterOf, inShape, allZero, sound, wellFormed}
+use Rattle.planner.specs.Claims.{Rules, IsSound, FormRule, Forms}
+use Rattle.planner.proofs.TestRules.{both-true, true-both, machine-range, range-processors, range-speeds, is-table, table-is}
+use Rattle.planner.proofs.Passing.{not-long, long-not, plan-passes, passes-plan}
+
+-- ---- Zeros
+
+zeros-is : (l : List ℕ) → zeros l ≡ true → l ≡ replicate (length l) 0
+unfolding zeros
+zeros-is [] e = refl
+zeros-is (x ∷ xs) e = let b = both-true (eqb x 0) (zeros xs) e in ap₂ _∷_ (eqb-true x 0 (b .0)) (zeros-is xs (b .1))
+
+is-zeros : (n : ℕ) → zeros (replicate n 0) ≡ true
+unfolding zeros
+is-zeros zero = refl
+is-zeros (suc n) = is-zeros n
+
+unused-is : (n : ℕ) → unused (replicate n noJob) ≡ true
+unused-is n = placing .tests .places (replicate n noJob) .1 (ap (λ (k : ℕ). replicate k noJob) (sym (length-replicate n noJob)))
+
+-- ---- With a machine and without
+
+pub form-none : (r : Roster) → r .machine .processors ≡ 0 → wellFormed r ≡ allZero r
+unfolding wellFormed
+form-none r e = rw (eq-eqb (r .machine .processors) 0 e, wellFormed)
+
+pub form-open : (r : Roster) → (r .machine .processors ≡ 0 → ⊥) → wellFormed r ≡ sound r
+unfolding wellFormed
+form-open r n = rw (ne-eqb (r .machine .processors) 0 n, wellFormed)
+
+pub model-none : (r : Roster) → r .machine .processors ≡ 0 → modelOf r ≡ Closed
+unfolding modelOf
+model-none r e = rw (eq-eqb (r .machine .processors) 0 e, modelOf)
+
+pub model-open : (r : Roster) → (r .machine .processors ≡ 0 → ⊥)
+    → modelOf r ≡ Opened (r .machine) (take (r .machine .levels) (r .table)) (take (r .held) (r .jobs))
+unfolding modelOf
+model-open r n = rw (ne-eqb (r .machine .processors) 0 n, modelOf)
+
+-- ---- The empty roster
+
+same-roster : (m L b d m′ L′ b′ d′ h h′ : ℕ) (t t′ : List ℕ) (js js′ : List Job)
+    → m ≡ m′ → L ≡ L′ → b ≡ b′ → d ≡ d′ → t ≡ t′ → h ≡ h′ → js ≡ js′
+    → _≡_ {A = Roster} (record { machine = record { processors = m; levels = L; lowest = b; step = d }; table = t; held = h; jobs = js })
+    (record { machine = record { processors = m′; levels = L′; lowest = b′; step = d′ }; table = t′; held = h′; jobs = js′ })
+same-roster m L b d m′ L′ b′ d′ h h′ t t′ js js′ e₁ e₂ e₃ e₄ e₅ e₆ e₇ = cc
+
+pub empty-form : wellFormed emptyRoster ≡ true
+unfolding wellFormed allZero emptyRoster machine zeros unused
+empty-form = refl
+
+closed-roster : rosterOf Closed ≡ emptyRoster
+unfolding rosterOf
+closed-roster = refl
+
+module _ (r : Roster) (entries : length (r .table) ≡ 32) (places : length (r .jobs) ≡ 64) where
+  zero-empty : r .machine .processors ≡ 0 → allZero r ≡ true → r ≡ emptyRoster
+  unfolding allZero emptyRoster machine
+  zero-empty none e =
+      let z = both-true _ (unused (r .jobs)) e in
+      let y = both-true _ (zeros (r .table)) (z .0) in
+      let x = both-true _ (eqb (r .held) 0) (y .0) in
+      let w = both-true _ (eqb (r .machine .step) 0) (x .0) in
+      let v = both-true (eqb (r .machine .levels) 0) (eqb (r .machine .lowest) 0) (w .0) in
+      same-roster _ _ _ _ 0 0 0 0 _ 0 _ _ _ _ none (eqb-true _ 0 (v .0)) (eqb-true _ 0 (v .1)) (eqb-true _ 0 (w .1))
+      (zeros-is (r .table) (y .1) ∙ ap (λ (n : ℕ). replicate {A = ℕ} n 0) entries) (eqb-true _ 0 (x .1))
+      (placing .tests .places (r .jobs) .0 (z .1) ∙ ap (λ (n : ℕ). replicate n noJob) places)
+
+  -- ---- A roster with a machine
+
+  abbrev M : Machine
+  M = r .machine
+
+  abbrev numbers : List ℕ
+  numbers = take (r .machine .levels) (r .table)
+
+  abbrev held-jobs : List Job
+  held-jobs = take (r .held) (r .jobs)
+
+  abbrev ranged : Bool
+  ranged = oneTo 32 (M .processors) && speedsFit (M .levels) (M .lowest) (M .step)
+
+  pub shape-places : inShape r ≡ true → (r .held ≤ 64) × Every JobInRange held-jobs
+  unfolding inShape
+  shape-places e =
+      let z = both-true _ (unused (drop (r .held) (r .jobs))) e in
+      let y = both-true _ (listed held-jobs) (z .0) in
+      let x = both-true (ranged && isTable M numbers && zeros (drop (M .levels) (r .table))) (leb (r .held) 64) (y .0) in
+      (leb-true (r .held) 64 (x .1), placing .tests .jobs held-jobs .0 (y .1) .0)
+
+  pub shape-machine : inShape r ≡ true → InRange M
+  unfolding inShape machine
+  shape-machine e =
+      let z = both-true _ (unused (drop (r .held) (r .jobs))) e in
+      let y = both-true _ (listed held-jobs) (z .0) in
+      let x = both-true (ranged && isTable M numbers && zeros (drop (M .levels) (r .table))) (leb (r .held) 64) (y .0) in
+      let w = both-true (ranged && isTable M numbers) (zeros (drop (M .levels) (r .table))) (x .0) in
+      let v = both-true ranged (isTable M numbers) (w .0) in
+      let u = both-true (oneTo 32 (M .processors)) (speedsFit (M .levels) (M .lowest) (M .step)) (v .0) in
+      machine-range (M .processors) (M .levels) (M .lowest) (M .step) (u .0) (u .1)
+
+  sound-is : sound r ≡ true → IsSound r
+  unfolding sound inShape
+  sound-is e =
+      let p = both-true (inShape r && not (tooLong held-jobs)) (not (noPlan M held-jobs)) e in
+      let l = both-true (inShape r) (not (tooLong held-jobs)) (p .0) in
+      let z = both-true _ (unused (drop (r .held) (r .jobs))) (l .0) in
+      let y = both-true _ (listed held-jobs) (z .0) in
+      let x = both-true (ranged && isTable M numbers && zeros (drop (M .levels) (r .table))) (leb (r .held) 64) (y .0) in
+      let w = both-true (ranged && isTable M numbers) (zeros (drop (M .levels) (r .table))) (x .0) in
+      let in-range = shape-machine (l .0) in
+      let by = placing .tests .jobs held-jobs .0 (y .1) in
+      record {
+        places = leb-true (r .held) 64 (x .1);
+        rules = record {
+          machine-range = in-range;
+          table-rules = is-table M numbers (both-true ranged (isTable M numbers) (w .0) .1);
+          job-ranges = by .0;
+          by-id = by .1;
+          cycle = not-long held-jobs (not-true (tooLong held-jobs) (l .1));
+          some-plan = plan-passes M in-range held-jobs (not-true (noPlan M held-jobs) (p .1));
+        };
+        unused-entries = zeros-is _ (w .1)
+            ∙ ap (λ (n : ℕ). replicate {A = ℕ} n 0) (length-drop (M .levels) (r .table) ∙ ap (λ (n : ℕ). n - M .levels) entries);
+        unused-places = placing .tests .places _ .0 (z .1)
+            ∙ ap (λ (n : ℕ). replicate n noJob) (length-drop (r .held) (r .jobs) ∙ ap (λ (n : ℕ). n - r .held) places);
+      }
+
+  is-sound : IsSound r → sound r ≡ true
+  unfolding sound inShape machine
+  is-sound s =
+      let k = s .rules in
+      true-both _ _
+      (true-both _ _
+      (true-both _ _
+      (true-both _ _
+      (true-both _ _
+      (true-both _ _
+      (true-both _ _
+      (true-both _ _ (range-processors (M .processors) (M .levels) (M .lowest) (M .step) (k .machine-range))
+      (range-speeds (M .processors) (M .levels) (M .lowest) (M .step) (k .machine-range)))
+      (table-is M numbers (k .table-rules)))
+      (ap zeros (s .unused-entries) ∙ is-zeros (32 - M .levels)))
+      (le-leb (r .held) 64 (s .places)))
+      (placing .tests .jobs held-jobs .1 (k .job-ranges, k .by-id)))
+      (ap unused (s .unused-places) ∙ unused-is (64 - r .held)))
+      (ap not (long-not held-jobs (k .cycle))))
+      (ap not (passes-plan M (k .machine-range) held-jobs (k .some-plan)))
+
+  open-carries : IsSound r → rosterOf (Opened (r .machine) (take (r .machine .levels) (r .table)) (take (r .held) (r .jobs))) ≡ r
+  unfolding rosterOf entriesOf placesOf
+  open-carries s =
+      let L = r .machine .levels in
+      let size : length (take L (r .table)) ≡ L = length-take-le L (r .table) (omega (arith, s .rules .machine-range .levels)) in
+      let held : length (take (r .held) (r .jobs)) ≡ r .held = length-take-le (r .held) (r .jobs) (omega (arith, s .places)) in
+      same-roster _ _ _ _ _ _ _ _ _ _ _ _ _ _ refl refl refl refl
+      (rw (size, ← s .unused-entries) (take-append-drop L (r .table))) held
+      (rw (held, ← s .unused-places) (take-append-drop (r .held) (r .jobs)))
+
+  -- ---- Both forms
+
+  pub form-sound : (r .machine .processors ≡ 0 → ⊥) → wellFormed r ≡ true → IsSound r
+  form-sound n e = sound-is (sym (form-open r n) ∙ e)
+
+  pub sound-form : IsSound r → wellFormed r ≡ true
+  sound-form s = form-open r (λ e. omega (arith, s .rules .machine-range .processors)) ∙ is-sound s
+
+  pub form-rule : FormRule r
+  form-rule = record { form = (forward, back); carries = carries-it }
+    where
+      forward : wellFormed r ≡ true → (r ≡ emptyRoster) ⊎ IsSound r
+      forward e = go (decLt 0 (r .machine .processors))
+        where
+          go : Dec (0 < r .machine .processors) → (r ≡ emptyRoster) ⊎ IsSound r
+          go (yes h) = inr (form-sound (λ z. omega arith) e)
+          go (no h) = let z : r .machine .processors ≡ 0 = omega arith in inl (zero-empty z (sym (form-none r z) ∙ e))
+
+      back : (r ≡ emptyRoster) ⊎ IsSound r → wellFormed r ≡ true
+      back (inl e) = ap wellFormed e ∙ empty-form
+      back (inr s) = sound-form s
+
+      carries-it : wellFormed r ≡ true → rosterOf (modelOf r) ≡ r
+      carries-it e = go (decLt 0 (r .machine .processors))
+        where
+          go : Dec (0 < r .machine .processors) → rosterOf (modelOf r) ≡ r
+          go (yes h) = let n : r .machine .processors ≡ 0 → ⊥ = λ z. omega arith in ap rosterOf (model-open r n) ∙ open-carries (form-sound n e)
+          go (no h) =
+              let z : r .machine .processors ≡ 0 = omega arith in
+              ap rosterOf (model-none r z) ∙ closed-roster ∙ sym (zero-empty z (sym (form-none r z) ∙ e))
+
+pub forms : Forms
+forms = form-rule
+
+-- ---- The roster of a model
+
+-- What every model made by calls is.
+abbrev pub Kept : Model → Type 0
+Kept Closed = Unit {0}
+Kept (Opened M table jobs) = Rules M table jobs × (length jobs ≤ 64)
+
+module _ (M : Machine) (table : List ℕ) (jobs : List Job) (rules : Rules M table jobs) (few : length jobs ≤ 64) where
+  abbrev roster : Roster
+  roster = rosterOf (Opened M table jobs)
+
+  size : length table ≡ M .levels
+  size = rules .table-rules .size
+
+  entries-count : length (entriesOf table) ≡ 32
+  unfolding entriesOf
+  entries-count =
+      omega (arith, length-append table (replicate (32 - length table) 0), length-replicate {A = ℕ} (32 - length table) 0, size, rules .machine-range .levels)
+
+  places-count : length (placesOf jobs) ≡ 64
+  unfolding placesOf
+  places-count = omega (arith, length-append jobs (replicate (64 - length jobs) noJob), length-replicate (64 - length jobs) noJob)
+
+  in-force : take (M .levels) (entriesOf table) ≡ table
+  unfolding entriesOf
+  in-force = rw (← size) (take-append-seam table (replicate (32 - length table) 0))
+
+  holding : take (length jobs) (placesOf jobs) ≡ jobs
+  unfolding placesOf
+  holding = take-append-seam jobs (replicate (64 - length jobs) noJob)
+
+  roster-sound : IsSound roster
+  unfolding rosterOf
+  roster-sound = record {
+    places = few;
+    rules = rw (in-force, holding) rules;
+    unused-entries = unfold entriesOf in rw (← size) (drop-append-seam table (replicate (32 - length table) 0));
+    unused-places = unfold placesOf in drop-append-seam jobs (replicate (64 - length jobs) noJob);
+  }
+
+  roster-form : wellFormed roster ≡ true
+  unfolding rosterOf
+  roster-form = sound-form roster entries-count places-count roster-sound
+
+  roster-model : modelOf roster ≡ Opened M table jobs
+  unfolding rosterOf
+  roster-model =
+      model-open roster (λ e. omega (arith, rules .machine-range .processors))
+      ∙ ap (λ (l : List ℕ). Opened M l (take (length jobs) (placesOf jobs))) in-force
+      ∙ ap (Opened M table) holding
+
+pub kept-form : (model : Model) → Kept model → wellFormed (rosterOf model) ≡ true
+unfolding rosterOf
+kept-form Closed kept = empty-form
+kept-form (Opened M table jobs) kept = roster-form M table jobs (kept .0) (kept .1)
+
+pub kept-model : (model : Model) → Kept model → modelOf (rosterOf model) ≡ model
+unfolding rosterOf emptyRoster machine
+kept-model Closed kept = model-none emptyRoster refl
+kept-model (Opened M table jobs) kept = roster-model M table jobs (kept .0) (kept .1)

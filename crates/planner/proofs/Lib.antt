@@ -1,0 +1,12 @@
+pub mod AcceptanceTrials
+pub mod TestRules
+pub mod Passing
+pub mod Forms
+pub mod Shapes
+pub mod Looking
+pub mod Conditions
+pub mod Outcomes
+pub mod Replies
+pub mod Steps
+pub mod Following
+pub mod Results

@@ -1,0 +1,144 @@
+-- The tests of a machine and of a roster, as the code makes them one after the other.
+use Prim.Native.Nat.{ℕ, _+_, _-_, _*_, _≤_, _<_}
+use native.Mathlib.Nat.{mul-le-mul}
+use native.Mathlib.Omega.{arith}
+use mathlib.Core.Path.{_≡_, refl, sym}
+use mathlib.Core.Logic.{_↔_}
+use mathlib.Core.Bool.{Bool, true, false, false≢true, _&&_}
+use mathlib.Core.List.{List}
+use borrow.Author.Tests.{eq-eqb, ne-eqb}
+use lib.Dec.{leb}
+use lib.ListN.{length, take, drop}
+use Rattle.gmf.specs.declared.Machine.{Machine}
+use Rattle.gmf.specs.Power.{IsTable}
+use Rattle.places.specs.Ranges.{oneTo}
+use Rattle.places.specs.Places.{unused, listed}
+use Rattle.power_tables.specs.Entries.{zeros}
+use Rattle.planner.specs.declared.Roster.{Roster}
+use Rattle.planner.specs.Tests.{speedsFit, isTable}
+use Rattle.planner.specs.Roster.{inShape, allZero}
+use Rattle.planner.proofs.TestRules.{both-true, one-to, is-table, table-is}
+
+-- ---- Speeds
+
+module _ (L b d : ℕ) where
+  pub speeds-1 : oneTo 32 L ≡ false → false ≡ speedsFit L b d
+  unfolding speedsFit
+  speeds-1 e = rw e
+
+  module _ (e : oneTo 32 L ≡ true) where
+    pub speeds-2 : oneTo 256 b ≡ false → false ≡ speedsFit L b d
+    unfolding speedsFit
+    speeds-2 f = rw (e, f)
+
+    module _ (f : oneTo 256 b ≡ true) where
+      pub speeds-3 : oneTo 255 d ≡ false → false ≡ speedsFit L b d
+      unfolding speedsFit
+      speeds-3 g = rw (e, f, g)
+
+      module _ (g : oneTo 255 d ≡ true) where
+        pub speeds-4 : leb (b + (L - 1) * d) 256 ≡ speedsFit L b d
+        unfolding speedsFit
+        speeds-4 = rw (e, f, g)
+
+        -- The product and the sum are small.
+        pub speeds-small : (1 ≤ L) × ((L - 1) * d ≤ 7905) × (b ≤ 256)
+        speeds-small =
+            let l = one-to 32 L e in
+            let low : L - 1 ≤ 31 = omega (arith, l) in
+            (l .0, omega (arith, mul-le-mul low (one-to 255 d g .1)), one-to 256 b f .1)
+
+-- Speeds that fit have at most 32 levels.
+pub speeds-levels : (L b d : ℕ) → speedsFit L b d ≡ true → L ≤ 32
+unfolding speedsFit
+speeds-levels L b d e =
+    one-to 32 L (both-true _ (oneTo 256 b) (both-true _ (oneTo 255 d) (both-true _ (leb (b + (L - 1) * d) 256) e .0) .0) .0) .1
+
+-- ---- A table that the code accepts
+
+pub accepted-table : (M : Machine) (table : List ℕ) (b : Bool) → (b ≡ true) ↔ IsTable M table → b ≡ isTable M table
+accepted-table M table true h = sym (table-is M table (h .0 refl))
+accepted-table M table false h = go (isTable M table) refl
+  where
+    go : (t : Bool) → isTable M table ≡ t → false ≡ t
+    go true e = h .1 (is-table M table e)
+    go false e = refl
+
+-- ---- The empty roster
+
+module _ (r : Roster) where
+  pub zero-1 : (r .machine .levels ≡ 0 → ⊥) → false ≡ allZero r
+  unfolding allZero
+  zero-1 n = rw (ne-eqb (r .machine .levels) 0 n)
+
+  module _ (a : r .machine .levels ≡ 0) where
+    pub zero-2 : (r .machine .lowest ≡ 0 → ⊥) → false ≡ allZero r
+    unfolding allZero
+    zero-2 n = rw (eq-eqb (r .machine .levels) 0 a, ne-eqb (r .machine .lowest) 0 n)
+
+    module _ (b : r .machine .lowest ≡ 0) where
+      pub zero-3 : (r .machine .step ≡ 0 → ⊥) → false ≡ allZero r
+      unfolding allZero
+      zero-3 n = rw (eq-eqb (r .machine .levels) 0 a, eq-eqb (r .machine .lowest) 0 b, ne-eqb (r .machine .step) 0 n)
+
+      module _ (d : r .machine .step ≡ 0) where
+        pub zero-4 : (r .held ≡ 0 → ⊥) → false ≡ allZero r
+        unfolding allZero
+        zero-4 n =
+            rw (eq-eqb (r .machine .levels) 0 a, eq-eqb (r .machine .lowest) 0 b, eq-eqb (r .machine .step) 0 d, ne-eqb (r .held) 0 n)
+
+        module _ (h : r .held ≡ 0) where
+          pub zero-5 : zeros (r .table) ≡ false → false ≡ allZero r
+          unfolding allZero
+          zero-5 e =
+              rw (eq-eqb (r .machine .levels) 0 a, eq-eqb (r .machine .lowest) 0 b, eq-eqb (r .machine .step) 0 d, eq-eqb (r .held) 0 h, e)
+
+          pub zero-6 : zeros (r .table) ≡ true → unused (r .jobs) ≡ allZero r
+          unfolding allZero
+          zero-6 e =
+              rw (eq-eqb (r .machine .levels) 0 a, eq-eqb (r .machine .lowest) 0 b, eq-eqb (r .machine .step) 0 d, eq-eqb (r .held) 0 h, e)
+
+-- ---- A roster with a machine
+
+module _ (r : Roster) where
+  pub shape-1 : oneTo 32 (r .machine .processors) ≡ false → false ≡ inShape r
+  unfolding inShape
+  shape-1 e = rw e
+
+  module _ (e₁ : oneTo 32 (r .machine .processors) ≡ true) where
+    pub shape-2 : speedsFit (r .machine .levels) (r .machine .lowest) (r .machine .step) ≡ false → false ≡ inShape r
+    unfolding inShape
+    shape-2 e = rw (e₁, e)
+
+    module _ (e₂ : speedsFit (r .machine .levels) (r .machine .lowest) (r .machine .step) ≡ true) where
+      pub shape-3 : isTable (r .machine) (take (r .machine .levels) (r .table)) ≡ false → false ≡ inShape r
+      unfolding inShape
+      shape-3 e = rw (e₁, e₂, e)
+
+      module _ (e₃ : isTable (r .machine) (take (r .machine .levels) (r .table)) ≡ true) where
+        pub shape-4 : zeros (drop (r .machine .levels) (r .table)) ≡ false → false ≡ inShape r
+        unfolding inShape
+        shape-4 e = rw (e₁, e₂, e₃, e)
+
+        module _ (e₄ : zeros (drop (r .machine .levels) (r .table)) ≡ true) where
+          pub shape-5 : (leb (r .held) 64 && listed (take (r .held) (r .jobs))) ≡ false → false ≡ inShape r
+          unfolding inShape
+          shape-5 e = go (leb (r .held) 64) e
+            where
+              go : (b : Bool) → (b && listed (take (r .held) (r .jobs))) ≡ false
+                  → false ≡ (oneTo 32 (r .machine .processors) && speedsFit (r .machine .levels) (r .machine .lowest) (r .machine .step)
+                  && isTable (r .machine) (take (r .machine .levels) (r .table)) && zeros (drop (r .machine .levels) (r .table))
+                  && b && listed (take (r .held) (r .jobs)) && unused (drop (r .held) (r .jobs)))
+              go true f = rw (e₁, e₂, e₃, e₄, f)
+              go false f = rw (e₁, e₂, e₃, e₄)
+
+          pub shape-6 : (leb (r .held) 64 && listed (take (r .held) (r .jobs))) ≡ true → unused (drop (r .held) (r .jobs)) ≡ inShape r
+          unfolding inShape
+          shape-6 e = go (leb (r .held) 64) e
+            where
+              go : (b : Bool) → (b && listed (take (r .held) (r .jobs))) ≡ true
+                  → unused (drop (r .held) (r .jobs)) ≡ (oneTo 32 (r .machine .processors) && speedsFit (r .machine .levels) (r .machine .lowest) (r .machine .step)
+                  && isTable (r .machine) (take (r .machine .levels) (r .table)) && zeros (drop (r .machine .levels) (r .table))
+                  && b && listed (take (r .held) (r .jobs)) && unused (drop (r .held) (r .jobs)))
+              go true f = rw (e₁, e₂, e₃, e₄, f)
+              go false f = absurd (false≢true f)

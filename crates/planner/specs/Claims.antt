@@ -1,0 +1,163 @@
+-- What is proved of the roster and its calls: `Planner` is all of it. Its proof is proofs/Results.antt.
+use Prim.Native.Nat.{ℕ, _-_, _≤_, _<_}
+use mathlib.Core.Path.{_≡_}
+use mathlib.Core.Logic.{_↔_, _⊎_}
+use mathlib.Core.Bool.{true, false, _&&_}
+use mathlib.Core.List.{List, [], _∷_, map}
+use lib.ListN.{length, take, drop, replicate}
+use Rattle.gmf.specs.declared.Machine.{Machine}
+use Rattle.gmf.specs.declared.Job.{Job}
+use Rattle.gmf.specs.Machine.{InRange}
+use Rattle.gmf.specs.Jobs.{JobInRange, ByRisingId, Every, hyperperiod, hyperperiodLimit, works}
+use Rattle.gmf.specs.Power.{IsTable}
+use Rattle.gmf.specs.Trials.{machine, job}
+use Rattle.gmf.specs.Claims.{Feasible, NonePasses}
+use Rattle.places.specs.Ranges.{oneTo}
+use Rattle.places.specs.Places.{noJob, has, insert}
+use Rattle.planner.specs.declared.Roster.{Roster}
+use Rattle.planner.specs.declared.Refusal.the-variants.{
+  Processors,
+  Speeds,
+  PowerTable,
+  JobNumbers,
+  Damaged,
+  NoMachine,
+  MachineOpen,
+  IdHeld,
+  IdNotHeld,
+  PlacesFull,
+  CycleTooLong,
+  NoPlan,
+}
+use Rattle.planner.specs.declared.Answer.the-variants.{Accepted, Refused}
+use Rattle.planner.specs.Tests.{speedsFit, isTable, tooLong, noPlan}
+use Rattle.planner.specs.Model.{Model, Closed, Opened, Call, OpenMachine, ReplaceTable, Admit, Retire}
+use Rattle.planner.specs.Roster.{emptyRoster, modelOf, rosterOf, wellFormed, replyTo}
+use Rattle.planner.specs.Calls.{numberOf, modelNumbers, modelAfter, replyNumbers, rosterAfter}
+
+-- ---- The tests say what 01 says
+
+pub record TestRule : Type 0 where
+  -- 1 and 2: the ranges of a machine.
+  pub machines : (m L b d : ℕ) → (oneTo 32 m && speedsFit L b d ≡ true) ↔ InRange (machine m L b d)
+  -- 3: a power table.
+  pub tables : (M : Machine) (table : List ℕ) → (isTable M table ≡ true) ↔ IsTable M table
+  -- 16: the hyperperiod is above its limit.
+  pub cycles : (jobs : List Job) → (tooLong jobs ≡ true) ↔ (hyperperiodLimit < hyperperiod jobs)
+  -- 17: no plan passes.
+  pub plans : (M : Machine) → InRange M → (jobs : List Job) → (noPlan M jobs ≡ true) ↔ NonePasses M (hyperperiod jobs) (works jobs)
+
+-- ---- Well-formed rosters
+
+-- The rules of 01 for a machine, its table and its jobs.
+pub record Rules (M : Machine) (table : List ℕ) (jobs : List Job) : Type 0 where
+  pub machine-range : InRange M
+  pub table-rules : IsTable M table
+  pub job-ranges : Every JobInRange jobs
+  pub by-id : ByRisingId jobs
+  pub cycle : hyperperiod jobs ≤ hyperperiodLimit
+  pub some-plan : Feasible M jobs
+
+-- What a roster with a machine is: the jobs fill the first places, at most 64 of them, and what is not used is 0.
+pub record IsSound (r : Roster) : Type 0 where
+  pub places : r .held ≤ 64
+  pub rules : Rules (r .machine) (take (r .machine .levels) (r .table)) (take (r .held) (r .jobs))
+  pub unused-entries : drop (r .machine .levels) (r .table) ≡ replicate (32 - r .machine .levels) 0
+  pub unused-places : drop (r .held) (r .jobs) ≡ replicate (64 - r .held) noJob
+
+-- Every roster has 32 entries and 64 places. It is well formed exactly when it is empty or such; and it is then the roster of its model.
+pub record FormRule (r : Roster) : Type 0 where
+  pub form : (wellFormed r ≡ true) ↔ ((r ≡ emptyRoster) ⊎ IsSound r)
+  pub carries : wellFormed r ≡ true → rosterOf (modelOf r) ≡ r
+
+abbrev pub Forms : Type 0
+Forms = (r : Roster) → length (r .table) ≡ 32 → length (r .jobs) ≡ 64 → FormRule r
+
+-- ---- Lists of calls
+
+-- "… a job in range, under a new id, with a place free and the cycle within its limit, is turned down exactly when no plan passes with it
+-- added."
+pub record TurnedDown (roster : Roster) (M : Machine) (jobs : List Job) : Type 0 where
+  pub by-17 : (new : Job) → JobInRange new → has (new .id) jobs ≡ false → length jobs < 64 → hyperperiod (insert new jobs) ≤ hyperperiodLimit
+      → (replyTo roster (Admit (new .id) (new .cost) (new .period)) .answer ≡ Refused NoPlan)
+      ↔ NonePasses M (hyperperiod (insert new jobs)) (works (insert new jobs))
+  pub or-accepted : (new : Job) → JobInRange new → has (new .id) jobs ≡ false → length jobs < 64 → hyperperiod (insert new jobs) ≤ hyperperiodLimit
+      → (replyTo roster (Admit (new .id) (new .cost) (new .period)) .answer ≡ Accepted) ↔ Feasible M (insert new jobs)
+
+-- For every list of calls from the empty roster, refused ones included.
+pub record Follows (calls : List Call) : Type 0 where
+  -- "Compared are each call's acceptance or refusal number … and the roster at the end."
+  pub replies : replyNumbers emptyRoster calls ≡ modelNumbers Closed calls
+  pub roster : rosterAfter emptyRoster calls ≡ rosterOf (modelAfter Closed calls)
+  -- "… a roster made by these calls never meets it" (7), whatever is called next.
+  pub well-formed : wellFormed (rosterAfter emptyRoster calls) ≡ true
+  pub never-7 : (call : Call) → numberOf (replyTo (rosterAfter emptyRoster calls) call .answer) ≡ 7 → ⊥
+  -- What the roster carries is the model.
+  pub model : modelOf (rosterAfter emptyRoster calls) ≡ modelAfter Closed calls
+  -- On an open machine the rules hold, and a job is turned down exactly when no plan passes.
+  pub rules : (M : Machine) (table : List ℕ) (jobs : List Job) → modelAfter Closed calls ≡ Opened M table jobs
+      → Rules M table jobs × (length jobs ≤ 64) × TurnedDown (rosterAfter emptyRoster calls) M jobs
+
+-- ---- Known results
+
+pub record CallTrials : Type 0 where
+  -- 01's numbers.
+  pub numbers : map numberOf (
+      Accepted
+      ∷ Refused Processors
+      ∷ Refused Speeds
+      ∷ Refused PowerTable
+      ∷ Refused JobNumbers
+      ∷ Refused Damaged
+      ∷ Refused NoMachine
+      ∷ Refused MachineOpen
+      ∷ Refused IdHeld
+      ∷ Refused IdNotHeld
+      ∷ Refused PlacesFull
+      ∷ Refused CycleTooLong
+      ∷ Refused NoPlan
+      ∷ []
+      ) ≡ 0 ∷ 1 ∷ 2 ∷ 3 ∷ 4 ∷ 7 ∷ 11 ∷ 12 ∷ 13 ∷ 14 ∷ 15 ∷ 16 ∷ 17 ∷ []
+  -- 01's sheet up to its plan: the job 11/10 is refused by 17.
+  pub sheet : modelNumbers Closed (
+      OpenMachine 4 4 1 1
+      ∷ Admit 1 10 10
+      ∷ Admit 2 9 10
+      ∷ Admit 3 6 10
+      ∷ Admit 4 5 10
+      ∷ Admit 5 1 10
+      ∷ Admit 6 11 10
+      ∷ []
+      ) ≡ 0 ∷ 0 ∷ 0 ∷ 0 ∷ 0 ∷ 0 ∷ 17 ∷ []
+  -- With no machine, each with a second reason to be refused: 11 comes first, and 1 before 2.
+  pub none-open : modelNumbers Closed (ReplaceTable [] ∷ Admit 0 0 0 ∷ Retire 0 ∷ OpenMachine 0 0 0 0 ∷ OpenMachine 1 2 2 255 ∷ [])
+      ≡ 11 ∷ 11 ∷ 11 ∷ 1 ∷ 2 ∷ []
+  -- With one: 12 before 1; 4 before 13 and 14; 13 before 16 and 17; 16 before 17.
+  pub one-open : modelNumbers Closed (
+      OpenMachine 1 3 1 1
+      ∷ OpenMachine 0 3 1 1
+      ∷ Admit 1 1 4096
+      ∷ Admit 1 0 4096
+      ∷ Admit 1 9000 4097
+      ∷ Admit 2 9000 4097
+      ∷ Admit 2 4097 4096
+      ∷ Retire 0
+      ∷ Retire 2
+      ∷ Retire 1
+      ∷ Admit 2 4097 4097
+      ∷ []
+      ) ≡ 0 ∷ 12 ∷ 0 ∷ 4 ∷ 13 ∷ 16 ∷ 17 ∷ 4 ∷ 14 ∷ 0 ∷ 0 ∷ []
+  -- "Tables for three levels: 18 48 100 and 5 5 5 accepted; 0 5 9 refused 3." A refused one leaves the table.
+  pub tables : modelAfter Closed (
+      OpenMachine 1 3 1 1 ∷ ReplaceTable (18 ∷ 48 ∷ 100 ∷ []) ∷ ReplaceTable (0 ∷ 5 ∷ 9 ∷ []) ∷ []
+      ) ≡ Opened (machine 1 3 1 1) (18 ∷ 48 ∷ 100 ∷ []) []
+  -- A new machine has the cubes of its speeds, here 2, 5 and 8.
+  pub house-table : modelAfter Closed (OpenMachine 1 3 2 3 ∷ []) ≡ Opened (machine 1 3 2 3) (8 ∷ 125 ∷ 512 ∷ []) []
+
+-- ---- All of it
+
+pub record Planner : Type 0 where
+  pub tests : TestRule
+  pub forms : Forms
+  pub follows : (calls : List Call) → Follows calls
+  pub trials : CallTrials

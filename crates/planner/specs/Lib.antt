@@ -1,0 +1,7 @@
+-- The roster and its calls. gmf's specs/Lib.antt says how to read these files.
+-- `Roster`, `Condition`, `Refusal`, `Answer` and `Reply` are the types of src/lib.rt.
+pub mod Tests
+pub mod Model
+pub mod Roster
+pub mod Calls
+pub mod Claims

@@ -1,0 +1,419 @@
+// The roster of jobs, and the calls that change it. A roster goes into each call and the next roster comes back. The definitions are in
+// specs/.
+ghost use mathlib.Core.Path.{_≡_};
+ghost use mathlib.Core.Bool.{true};
+ghost use Prim.Native.Nat.{_≤_};
+ghost use lib.ListN.{take};
+ghost use Rattle.gmf.specs.Jobs.{JobInRange};
+ghost use Rattle.places.specs.Places.{listed, has, before};
+ghost use Rattle.workload.specs.Load as load;
+ghost use Rattle.planner.specs.Tests.{speedsFit};
+ghost use Rattle.planner.specs.Model.{OpenMachine, ReplaceTable, Admit, Retire, refused, onMachine, admitted, retired};
+ghost use Rattle.planner.specs.Roster.{emptyRoster, modelOf, allZero, inShape, inspected, replied, replyTo};
+ghost use Rattle.planner.specs.Calls.{refusalNumber, numberOf};
+ghost use Rattle.planner.specs.Claims.{IsSound};
+use gmf::Job;
+use gmf::Machine;
+use places::job_fits;
+use places::listed_to;
+use places::one_to;
+use places::put_in;
+use places::take_out;
+use places::unused_from;
+use power_tables::accepts;
+use power_tables::all_zero;
+use power_tables::default_table;
+use power_tables::entries_of;
+use workload::Load;
+use workload::Totals;
+use workload::Verdict;
+use workload::load_of;
+
+// A machine, or none, its power table, and the jobs held, by rising id. What is not used is 0.
+pub struct Roster {
+    pub machine: Machine,
+    pub table: [u32; 32],
+    pub held: u8,
+    pub jobs: [Job; 64],
+}
+
+// What a roster is found to be: one that breaks a rule, one with no machine, or one with a machine and the totals of its jobs.
+pub enum Condition {
+    Damaged,
+    Closed,
+    Open(Totals),
+}
+
+// Why a call is turned down.
+pub enum Refusal {
+    Processors,
+    Speeds,
+    PowerTable,
+    JobNumbers,
+    Damaged,
+    NoMachine,
+    MachineOpen,
+    IdHeld,
+    IdNotHeld,
+    PlacesFull,
+    CycleTooLong,
+    NoPlan,
+}
+
+pub enum Answer {
+    Accepted,
+    Refused(Refusal),
+}
+
+// The answer to a call, and the roster that comes back.
+pub struct Reply {
+    pub answer: Answer,
+    pub roster: Roster,
+}
+
+impl Refusal {
+    // 01's number of a refusal.
+    pub fn number(self) -> u8
+        ensures { λ r. ⌜ r ≡ refusalNumber self ⌝ }
+    {
+        match self {
+            Refusal::Processors => 1,
+            Refusal::Speeds => 2,
+            Refusal::PowerTable => 3,
+            Refusal::JobNumbers => 4,
+            Refusal::Damaged => 7,
+            Refusal::NoMachine => 11,
+            Refusal::MachineOpen => 12,
+            Refusal::IdHeld => 13,
+            Refusal::IdNotHeld => 14,
+            Refusal::PlacesFull => 15,
+            Refusal::CycleTooLong => 16,
+            Refusal::NoPlan => 17,
+        }
+    }
+}
+
+impl Answer {
+    // 0, or the number of the refusal.
+    pub fn number(self) -> u8
+        ensures { λ r. ⌜ r ≡ numberOf self ⌝ }
+    {
+        match self {
+            Answer::Accepted => 0,
+            Answer::Refused(refusal) => refusal.number(),
+        }
+    }
+}
+
+// Whether levels, lowest speed, step and top speed are in range.
+fn speeds_fit(levels: u64, lowest: u64, step: u64) -> bool
+    ensures { λ r. ⌜ r ≡ speedsFit levels lowest step ⌝ }
+{
+    if !one_to(32, levels) {
+        return false;
+    }
+    if !one_to(256, lowest) {
+        return false;
+    }
+    if !one_to(255, step) {
+        return false;
+    }
+    lowest + (levels - 1) * step <= 256
+}
+
+// How many of the first `held` jobs stand before an id: the ids rise, so each look halves what is left.
+fn place_of(jobs: [Job; 64], held: usize, id: u16) -> usize
+    requires { ⌜ (held ≤ 64) × (listed (take held jobs) ≡ true) ⌝ }
+    ensures { λ r. ⌜ r ≡ before id (take held jobs) ⌝ }
+{
+    let mut low: usize = 0;
+    let mut high = held;
+    while low < high {
+        let middle = (low + high) / 2;
+        let job = jobs[middle];
+        if job.id < id {
+            low = middle + 1;
+        } else {
+            high = middle;
+        }
+    }
+    low
+}
+
+// Whether the job with an id, if it is held, stands at the place found for it.
+fn stands_at(jobs: [Job; 64], held: usize, at: usize, id: u16) -> bool
+    requires { ⌜ (held ≤ 64) × (listed (take held jobs) ≡ true) × (at ≡ before id (take held jobs)) ⌝ }
+    ensures { λ r. ⌜ r ≡ has id (take held jobs) ⌝ }
+{
+    if held <= at {
+        return false;
+    }
+    let job = jobs[at];
+    job.id == id
+}
+
+// A refusal gives back the roster as it came.
+fn refuse(roster: Roster, refusal: Refusal) -> Reply
+    ensures { λ r. ⌜ r ≡ replied roster (refused refusal) ⌝ }
+{
+    Reply {
+        answer: Answer::Refused(refusal),
+        roster,
+    }
+}
+
+impl Roster {
+    // The roster of all zeros.
+    pub fn empty() -> Roster
+        ensures { λ r. ⌜ r ≡ emptyRoster ⌝ }
+    {
+        Roster {
+            machine: Machine {
+                processors: 0,
+                levels: 0,
+                lowest: 0,
+                step: 0,
+            },
+            table: [0u32; 32],
+            held: 0,
+            jobs: [Job {
+                id: 0,
+                cost: 0,
+                period: 0,
+            }; 64],
+        }
+    }
+
+    // Whether every field but the count of processors is 0.
+    fn is_zero(self) -> bool
+        ensures { λ r. ⌜ r ≡ allZero self ⌝ }
+    {
+        let machine = self.machine;
+        let table = self.table;
+        let jobs = self.jobs;
+        if machine.levels != 0 {
+            return false;
+        }
+        if machine.lowest != 0 {
+            return false;
+        }
+        if machine.step != 0 {
+            return false;
+        }
+        if self.held != 0 {
+            return false;
+        }
+        if !all_zero(&table) {
+            return false;
+        }
+        unused_from(jobs, 0)
+    }
+
+    // Whether the machine, its table and the places keep their rules; the cycle and the plan are still to be looked at.
+    fn in_shape(self) -> bool
+        ensures { λ r. ⌜ r ≡ inShape self ⌝ }
+    {
+        let machine = self.machine;
+        let table = self.table;
+        let jobs = self.jobs;
+        let held = self.held as usize;
+        if !one_to(32, machine.processors as u64) {
+            return false;
+        }
+        if !speeds_fit(
+            machine.levels as u64,
+            machine.lowest as u64,
+            machine.step as u64,
+        ) {
+            return false;
+        }
+        let levels = machine.levels as usize;
+        if !accepts(machine, &table[..levels]) {
+            return false;
+        }
+        if !all_zero(&table[levels..]) {
+            return false;
+        }
+        if !listed_to(jobs, held) {
+            return false;
+        }
+        unused_from(jobs, held)
+    }
+
+    // Looks at every rule. One pass over the places and one over the jobs for their load.
+    pub fn inspect(self) -> Condition
+        ensures { λ r. ⌜ r ≡ inspected self ⌝ }
+    {
+        if self.machine.processors == 0 {
+            if self.is_zero() {
+                return Condition::Closed;
+            }
+            return Condition::Damaged;
+        }
+        if !self.in_shape() {
+            return Condition::Damaged;
+        }
+        let jobs = self.jobs;
+        let load = load_of(jobs, self.held as usize);
+        match load {
+            Load::Within(totals) => {
+                let verdict = load.judge(self.machine.processors);
+                match verdict {
+                    Verdict::SomePlan => Condition::Open(totals),
+                    Verdict::NoPlan => Condition::Damaged,
+                    Verdict::TooLong => Condition::Damaged,
+                }
+            }
+            Load::TooLong => Condition::Damaged,
+        }
+    }
+
+    // Opens a machine, with the default table.
+    pub fn open_machine(self, processors: u64, levels: u64, lowest: u64, step: u64) -> Reply
+        ensures { λ r. ⌜ r ≡ replyTo self (OpenMachine processors levels lowest step) ⌝ }
+    {
+        let condition = self.inspect();
+        match condition {
+            Condition::Damaged => refuse(self, Refusal::Damaged),
+            Condition::Open(_) => refuse(self, Refusal::MachineOpen),
+            Condition::Closed => {
+                if !one_to(32, processors) {
+                    return refuse(self, Refusal::Processors);
+                }
+                if !speeds_fit(levels, lowest, step) {
+                    return refuse(self, Refusal::Speeds);
+                }
+                let machine = Machine {
+                    processors: processors as u8,
+                    levels: levels as u8,
+                    lowest: lowest as u16,
+                    step: step as u8,
+                };
+                let table = default_table(machine);
+                let mut next = self;
+                next.machine = machine;
+                next.table = table;
+                Reply {
+                    answer: Answer::Accepted,
+                    roster: next,
+                }
+            }
+        }
+    }
+
+    // Puts another power table in force.
+    pub fn replace_table(self, values: &[u32]) -> Reply
+        ensures { λ r. ⌜ r ≡ replyTo self (ReplaceTable (now (values .entry))) ⌝ }
+    {
+        let condition = self.inspect();
+        match condition {
+            Condition::Damaged => refuse(self, Refusal::Damaged),
+            Condition::Closed => refuse(self, Refusal::NoMachine),
+            Condition::Open(_) => {
+                let machine = self.machine;
+                if !accepts(machine, values) {
+                    return refuse(self, Refusal::PowerTable);
+                }
+                let table = entries_of(values);
+                let mut next = self;
+                next.table = table;
+                Reply {
+                    answer: Answer::Accepted,
+                    roster: next,
+                }
+            }
+        }
+    }
+
+    // Admits a job.
+    pub fn admit(self, id: u64, cost: u64, period: u64) -> Reply
+        ensures { λ r. ⌜ r ≡ replyTo self (Admit id cost period) ⌝ }
+    {
+        let condition = self.inspect();
+        match condition {
+            Condition::Damaged => refuse(self, Refusal::Damaged),
+            Condition::Closed => refuse(self, Refusal::NoMachine),
+            Condition::Open(totals) => {
+                if !job_fits(id, cost, period) {
+                    return refuse(self, Refusal::JobNumbers);
+                }
+                let job = Job {
+                    id: id as u16,
+                    cost: cost as u16,
+                    period: period as u16,
+                };
+                self.enter(job, totals)
+            }
+        }
+    }
+
+    // A job in range goes in by its id. The load with it comes from the totals, so that the jobs are not passed again.
+    fn enter(self, job: Job, totals: Totals) -> Reply
+        requires { ⌜ IsSound self × (totals ≡ load.totals (take (self .held) (self .jobs))) × JobInRange job ⌝ }
+        ensures { λ r. ⌜ r ≡ replied self (onMachine (modelOf self) (admitted job)) ⌝ }
+    {
+        let jobs = self.jobs;
+        let held = self.held as usize;
+        let at = place_of(jobs, held, job.id);
+        if stands_at(jobs, held, at, job.id) {
+            return refuse(self, Refusal::IdHeld);
+        }
+        if 64 <= held {
+            return refuse(self, Refusal::PlacesFull);
+        }
+        let load = totals.with(job);
+        let verdict = load.judge(self.machine.processors);
+        match verdict {
+            Verdict::TooLong => refuse(self, Refusal::CycleTooLong),
+            Verdict::NoPlan => refuse(self, Refusal::NoPlan),
+            Verdict::SomePlan => {
+                let places = put_in(jobs, at, job);
+                let mut next = self;
+                next.held = self.held + 1;
+                next.jobs = places;
+                Reply {
+                    answer: Answer::Accepted,
+                    roster: next,
+                }
+            }
+        }
+    }
+
+    // Retires a job. The rest has no more work in its own hyperperiod, so that some plan still passes.
+    pub fn retire(self, id: u64) -> Reply
+        ensures { λ r. ⌜ r ≡ replyTo self (Retire id) ⌝ }
+    {
+        let condition = self.inspect();
+        match condition {
+            Condition::Damaged => refuse(self, Refusal::Damaged),
+            Condition::Closed => refuse(self, Refusal::NoMachine),
+            Condition::Open(_) => {
+                if !one_to(65535, id) {
+                    return refuse(self, Refusal::JobNumbers);
+                }
+                self.leave(id as u16)
+            }
+        }
+    }
+
+    // The job with an id goes out.
+    fn leave(self, id: u16) -> Reply
+        requires { ⌜ IsSound self ⌝ }
+        ensures { λ r. ⌜ r ≡ replied self (onMachine (modelOf self) (retired id)) ⌝ }
+    {
+        let jobs = self.jobs;
+        let held = self.held as usize;
+        let at = place_of(jobs, held, id);
+        if !stands_at(jobs, held, at, id) {
+            return refuse(self, Refusal::IdNotHeld);
+        }
+        let places = take_out(jobs, at);
+        let mut next = self;
+        next.held = self.held - 1;
+        next.jobs = places;
+        Reply {
+            answer: Answer::Accepted,
+            roster: next,
+        }
+    }
+}
