@@ -6,18 +6,20 @@ use Rattle.gmf.specs.Jobs.{window, hyperperiod, work, works}
 use Rattle.gmf.specs.Capacity.{insert, sortDescending, largest, capacity}
 use Rattle.gmf.specs.Growing.{slowest, raise, demand, holds, raisesLeft, raiseWhileFails, step, steps, growing, planOf}
 use Rattle.gmf.specs.Power.{rise, cube, tabulate, cubes, defaultTable}
-use Rattle.gmf.specs.Trials.{machine}
+use Rattle.gmf.specs.Trials.{machine, jobsFrom}
 use Rattle.places.specs.Ranges.{oneTo, jobFits}
-use Rattle.places.specs.Places.{has, remove}
+use Rattle.places.specs.Places.{placesOf, unused, listedAfter, listed, has, remove}
 use Rattle.places.specs.Places as places
+use Rattle.power_tables.specs.Entries.{entriesOf, zeros}
 use Rattle.planner.specs.Tests.{speedsFit, allBelow, isTable, tooLong, foundNone, noPlan}
 use Rattle.planner.specs.Model.{refuseIf, isOpen, onMachine, opened, weighed, admitted, retired}
 use Rattle.planner.specs.Model as model
-use Rattle.planner.specs.Calls.{refusalNumber, numberOf, outcomeNumber, after, modelNumbers, modelAfter}
-use Rattle.planner.specs.Claims.{CallTrials}
+use Rattle.planner.specs.Roster.{emptyRoster, modelOf, rosterOf, inShape, sound, allZero, wellFormed, replied, replyTo}
+use Rattle.planner.specs.Calls.{refusalNumber, numberOf, outcomeNumber, after, modelNumbers, modelAfter, rosterAfter}
+use Rattle.planner.specs.Claims.{rosterWith, CallTrials, FormTrials}
 
 pub call-trials : CallTrials
-unfolding euclid gcd lcm speed top window hyperperiod work works insert sortDescending largest capacity slowest raise demand holds raisesLeft raiseWhileFails step steps growing planOf rise cube tabulate cubes defaultTable machine oneTo jobFits has remove places.insert speedsFit allBelow isTable tooLong foundNone noPlan refuseIf isOpen onMachine opened weighed admitted retired model.step refusalNumber numberOf outcomeNumber after modelNumbers modelAfter
+unfolding euclid gcd lcm speed top window hyperperiod work works insert sortDescending largest capacity slowest raise demand holds raisesLeft raiseWhileFails step steps growing planOf rise cube tabulate cubes defaultTable machine jobsFrom entriesOf zeros oneTo jobFits placesOf unused listedAfter listed has remove places.insert speedsFit allBelow isTable tooLong foundNone noPlan refuseIf isOpen onMachine opened weighed admitted retired model.step refusalNumber numberOf outcomeNumber after modelNumbers modelAfter emptyRoster modelOf rosterOf inShape sound allZero wellFormed replied replyTo rosterAfter rosterWith
 call-trials = record {
   numbers = refl;
   sheet = refl;
@@ -25,4 +27,10 @@ call-trials = record {
   one-open = refl;
   tables = refl;
   house-table = refl;
+  all-held = refl;
+  left = refl;
 }
+
+pub form-trials : FormTrials
+unfolding euclid gcd lcm speed top window hyperperiod work works insert sortDescending largest capacity slowest raise demand holds raisesLeft raiseWhileFails step steps growing planOf rise machine jobsFrom entriesOf zeros oneTo jobFits placesOf unused listedAfter listed speedsFit allBelow isTable tooLong foundNone noPlan emptyRoster inShape sound allZero wellFormed rosterWith
+form-trials = record { kept = refl; not-empty = refl; not-a-machine = refl; not-places = refl; not-planned = refl }

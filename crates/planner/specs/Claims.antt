@@ -10,10 +10,11 @@ use Rattle.gmf.specs.declared.Job.{Job}
 use Rattle.gmf.specs.Machine.{InRange}
 use Rattle.gmf.specs.Jobs.{JobInRange, ByRisingId, Every, hyperperiod, hyperperiodLimit, works}
 use Rattle.gmf.specs.Power.{IsTable}
-use Rattle.gmf.specs.Trials.{machine, job}
+use Rattle.gmf.specs.Trials.{machine, job, jobsFrom}
 use Rattle.gmf.specs.Claims.{Feasible, NonePasses}
 use Rattle.places.specs.Ranges.{oneTo}
-use Rattle.places.specs.Places.{noJob, has, insert}
+use Rattle.places.specs.Places.{noJob, placesOf, has, insert}
+use Rattle.power_tables.specs.Entries.{entriesOf}
 use Rattle.planner.specs.declared.Roster.{Roster}
 use Rattle.planner.specs.declared.Refusal.the-variants.{
   Processors,
@@ -31,9 +32,9 @@ use Rattle.planner.specs.declared.Refusal.the-variants.{
 }
 use Rattle.planner.specs.declared.Answer.the-variants.{Accepted, Refused}
 use Rattle.planner.specs.Tests.{speedsFit, isTable, tooLong, noPlan}
-use Rattle.planner.specs.Model.{Model, Closed, Opened, Call, OpenMachine, ReplaceTable, Admit, Retire}
+use Rattle.planner.specs.Model.{Model, Closed, Opened, Call, OpenMachine, ReplaceTable, Admit, Retire, step}
 use Rattle.planner.specs.Roster.{emptyRoster, modelOf, rosterOf, wellFormed, replyTo}
-use Rattle.planner.specs.Calls.{numberOf, modelNumbers, modelAfter, replyNumbers, rosterAfter}
+use Rattle.planner.specs.Calls.{numberOf, outcomeNumber, modelNumbers, modelAfter, replyNumbers, rosterAfter}
 
 -- ---- The tests say what 01 says
 
@@ -100,6 +101,10 @@ pub record Follows (calls : List Call) : Type 0 where
 
 -- ---- Known results
 
+-- A roster by its machine, the first numbers of its table, its count and its first places.
+unfoldable pub rosterWith : Machine → List ℕ → ℕ → List Job → Roster
+rosterWith M numbers held jobs = record { machine = M; table = entriesOf numbers; held = held; jobs = placesOf jobs }
+
 pub record CallTrials : Type 0 where
   -- 01's numbers.
   pub numbers : map numberOf (
@@ -153,6 +158,49 @@ pub record CallTrials : Type 0 where
       ) ≡ Opened (machine 1 3 1 1) (18 ∷ 48 ∷ 100 ∷ []) []
   -- A new machine has the cubes of its speeds, here 2, 5 and 8.
   pub house-table : modelAfter Closed (OpenMachine 1 3 2 3 ∷ []) ≡ Opened (machine 1 3 2 3) (8 ∷ 125 ∷ 512 ∷ []) []
+  -- 64 jobs are held: 13 before 15, and 15 before 16 and 17; and 14.
+  pub all-held : map (λ call. outcomeNumber (step (Opened (machine 1 1 1 1) (1 ∷ []) (jobsFrom 1 (replicate 64 (1, 4096)))) call)) (
+      Admit 64 9000 4097 ∷ Admit 65 9000 4097 ∷ Retire 65 ∷ Retire 64 ∷ []
+      ) ≡ 13 ∷ 15 ∷ 14 ∷ 0 ∷ []
+  -- What the calls leave on a roster, refused ones among them.
+  pub left : rosterAfter emptyRoster (OpenMachine 1 3 1 1 ∷ Admit 7 1 2 ∷ Retire 8 ∷ ReplaceTable (0 ∷ 5 ∷ 9 ∷ []) ∷ [])
+      ≡ rosterWith (machine 1 3 1 1) (1 ∷ 8 ∷ 27 ∷ []) 1 (job 7 1 2 ∷ [])
+
+-- Rosters that keep every rule, and rosters that break one.
+pub record FormTrials : Type 0 where
+  pub kept : map wellFormed (emptyRoster ∷ rosterWith (machine 1 3 1 1) (1 ∷ 8 ∷ 27 ∷ []) 1 (job 7 1 2 ∷ []) ∷ []) ≡ true ∷ true ∷ []
+  -- With no machine: a step, a count, a number, a job.
+  pub not-empty : map wellFormed (
+      rosterWith (machine 0 0 0 1) [] 0 []
+      ∷ rosterWith (machine 0 0 0 0) [] 1 []
+      ∷ rosterWith (machine 0 0 0 0) (1 ∷ []) 0 []
+      ∷ rosterWith (machine 0 0 0 0) [] 0 (job 7 1 2 ∷ [])
+      ∷ []
+      ) ≡ false ∷ false ∷ false ∷ false ∷ []
+  -- A range of the machine, the table's rules, a number after the table.
+  pub not-a-machine : map wellFormed (
+      rosterWith (machine 33 3 1 1) (1 ∷ 8 ∷ 27 ∷ []) 0 []
+      ∷ rosterWith (machine 1 3 1 0) (1 ∷ 8 ∷ 27 ∷ []) 0 []
+      ∷ rosterWith (machine 1 3 1 1) (0 ∷ 5 ∷ 9 ∷ []) 0 []
+      ∷ rosterWith (machine 1 3 1 1) (1 ∷ 8 ∷ 27 ∷ 64 ∷ []) 0 []
+      ∷ []
+      ) ≡ false ∷ false ∷ false ∷ false ∷ []
+  -- A range of a job, an id twice, falling ids, a hole, a job in an unused place, a count above 64.
+  pub not-places : map wellFormed (
+      rosterWith (machine 1 1 1 1) (1 ∷ []) 1 (job 7 0 2 ∷ [])
+      ∷ rosterWith (machine 1 1 1 1) (1 ∷ []) 2 (job 7 1 2 ∷ job 7 1 2 ∷ [])
+      ∷ rosterWith (machine 1 1 1 1) (1 ∷ []) 2 (job 7 1 2 ∷ job 6 1 2 ∷ [])
+      ∷ rosterWith (machine 1 1 1 1) (1 ∷ []) 2 (job 0 0 0 ∷ job 7 1 2 ∷ [])
+      ∷ rosterWith (machine 1 1 1 1) (1 ∷ []) 1 (job 7 1 2 ∷ job 8 1 2 ∷ [])
+      ∷ rosterWith (machine 1 1 1 1) (1 ∷ []) 65 (jobsFrom 1 (replicate 64 (1, 64)))
+      ∷ []
+      ) ≡ false ∷ false ∷ false ∷ false ∷ false ∷ false ∷ []
+  -- The cycle; no plan that passes.
+  pub not-planned : map wellFormed (
+      rosterWith (machine 1 1 1 1) (1 ∷ []) 2 (job 1 1 4096 ∷ job 2 1 4097 ∷ [])
+      ∷ rosterWith (machine 1 1 1 1) (1 ∷ []) 1 (job 7 3 2 ∷ [])
+      ∷ []
+      ) ≡ false ∷ false ∷ []
 
 -- ---- All of it
 
@@ -160,4 +208,5 @@ pub record Planner : Type 0 where
   pub tests : TestRule
   pub forms : Forms
   pub follows : (calls : List Call) → Follows calls
-  pub trials : CallTrials
+  pub call-trials : CallTrials
+  pub form-trials : FormTrials

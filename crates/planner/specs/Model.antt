@@ -64,21 +64,31 @@ opened M = Opened M (defaultTable M) []
 
 -- The conditions 16 and 17, on the jobs with the new one.
 unfoldable pub weighed : Machine → List ℕ → List Job → Outcome
-weighed M table jobs = refuseIf (tooLong jobs) CycleTooLong (refuseIf (noPlan M jobs) NoPlan (accepted (Opened M table jobs)))
+weighed M table jobs =
+    refuseIf (tooLong jobs) CycleTooLong
+    (refuseIf (noPlan M jobs) NoPlan
+    (accepted (Opened M table jobs)))
 
 -- "Admit: the job goes in by its id." The conditions 13 and 15 come before 16 and 17.
 unfoldable pub admitted : Job → Machine → List ℕ → List Job → Outcome
-admitted new M table jobs = refuseIf (has (new .id) jobs) IdHeld (refuseIf (leb 64 (length jobs)) PlacesFull (weighed M table (insert new jobs)))
+admitted new M table jobs =
+    refuseIf (has (new .id) jobs) IdHeld
+    (refuseIf (leb 64 (length jobs)) PlacesFull
+    (weighed M table (insert new jobs)))
 
 -- "Retire: the job with that id goes out."
 unfoldable pub retired : ℕ → Machine → List ℕ → List Job → Outcome
-retired id M table jobs = refuseIf (not (has id jobs)) IdNotHeld (accepted (Opened M table (remove id jobs)))
+retired id M table jobs =
+    refuseIf (not (has id jobs)) IdNotHeld
+    (accepted (Opened M table (remove id jobs)))
 
 -- What a call does. "Order: 01: 5, 12, 1, 2. 02: 5, 11, 3. 03: 5, 11, 4, 13, 15, 16, 17. 04: 5, 11, 4, 14." (5 is a line's.)
 unfoldable pub step : Model → Call → Outcome
 step model (OpenMachine m L b d) =
     refuseIf (isOpen model) MachineOpen
-    (refuseIf (not (oneTo 32 m)) Processors (refuseIf (not (speedsFit L b d)) Speeds (accepted (opened (machine m L b d)))))
+    (refuseIf (not (oneTo 32 m)) Processors
+    (refuseIf (not (speedsFit L b d)) Speeds
+    (accepted (opened (machine m L b d)))))
 step model (ReplaceTable values) =
     onMachine model (λ M table jobs. refuseIf (not (isTable M values)) PowerTable (accepted (Opened M values jobs)))
 step model (Admit id cost period) =

@@ -311,12 +311,12 @@ impl Roster {
             Condition::Closed => refuse(self, Refusal::NoMachine),
             Condition::Open(_) => {
                 let machine = self.machine;
+                let entries = entries_of(values);
+                let mut next = self;
+                next.table = entries;
                 if !accepts(machine, values) {
                     return refuse(self, Refusal::PowerTable);
                 }
-                let table = entries_of(values);
-                let mut next = self;
-                next.table = table;
                 Reply {
                     answer: Answer::Accepted,
                     roster: next,
@@ -367,10 +367,10 @@ impl Roster {
             Verdict::TooLong => refuse(self, Refusal::CycleTooLong),
             Verdict::NoPlan => refuse(self, Refusal::NoPlan),
             Verdict::SomePlan => {
-                let places = put_in(jobs, at, job);
+                let with_it = put_in(jobs, at, job);
                 let mut next = self;
                 next.held = self.held + 1;
-                next.jobs = places;
+                next.jobs = with_it;
                 Reply {
                     answer: Answer::Accepted,
                     roster: next,
@@ -407,10 +407,10 @@ impl Roster {
         if !stands_at(jobs, held, at, id) {
             return refuse(self, Refusal::IdNotHeld);
         }
-        let places = take_out(jobs, at);
+        let without_it = take_out(jobs, at);
         let mut next = self;
         next.held = self.held - 1;
-        next.jobs = places;
+        next.jobs = without_it;
         Reply {
             answer: Answer::Accepted,
             roster: next,

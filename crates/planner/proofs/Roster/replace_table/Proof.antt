@@ -51,7 +51,7 @@ refuse-requires-3 c κs = search needs
 returns : tie.Need-returns
 returns c =
     let a = c .before .before in
-    let t = a .before .before in
+    let t = a .before .before .before in
     let s = t .before .before .before .before in
     c .refuse3 .ensures
     ∙ reply-open _ (entries s) (places s) (open-at t) _ _
@@ -72,12 +72,11 @@ returns-3 c =
 
 returns-4 : tie.Need-returns-4
 returns-4 c =
-    let e = c .before in
-    let a = e .before in
-    let t = a .before .before in
+    let a = c .before in
+    let t = a .before .before .before in
     let s = t .before .before .before .before in
-    let ok = sym (accepted-table _ _ _ (a .accepts .ensures)) ∙ not-false _ (e .if1 .left) in
-    reply-table _ (entries s) (places s) (open-at t) _ _ ok (is-table _ _ ok .size) (c .entries-of .ensures)
+    let ok = sym (accepted-table _ _ _ (a .accepts .ensures)) ∙ not-false _ (c .if1 .left) in
+    reply-table _ (entries s) (places s) (open-at t) _ _ ok (is-table _ _ ok .size) (a .before .entries-of .ensures)
     ∙ reply-open _ (entries s) (places s) (open-at t) _ _ (table-0 _ _ _ _ ok)
 
 pub replace-table-spec : {M : Type 1} → statement M
@@ -90,10 +89,10 @@ replace-table-spec =
     enum-told-2
     refuse-requires-2
     enum-told-3
+    entries-of-requires
     accepts-requires
     refuse-requires-3
     returns
-    entries-of-requires
     returns-2
     returns-3
     returns-4)
