@@ -2,7 +2,8 @@
 use mathlib.Core.Path.{refl}
 use Rattle.frame_reader.specs.Lines.{joined, linesOf, lineLength, lineEnd}
 use Rattle.hexadecimal.specs.Text.{valueOf, byteBefore, endOf, textOf}
-use Rattle.frame_reader.specs.Frames.{kindOf, rightLength, widthsIn, numberAt, numbersFrom, saidAs, saidWith, saidIn, saidBy}
+use Rattle.frame_kinds.specs.Frames.{kindOf, rightLength, widthsIn, numberAt, numbersFrom, saidAs, saidWith}
+use Rattle.frame_reader.specs.Frames.{saidIn, saidBy}
 use Rattle.frame_reader.specs.Claims.{exampleSheet, wideNumbers, LineTrials, FrameTrials}
 
 pub line-trials : LineTrials

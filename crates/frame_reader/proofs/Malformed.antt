@@ -1,36 +1,15 @@
 -- Refusal 5: which lines are malformed.
 use mathlib.Core.Path.{_≡_, refl}
-use mathlib.Core.Logic.{_⊎_, inl, inr}
-use mathlib.Core.Bool.{Bool, true, false}
 use mathlib.Core.List.{List, [], _∷_}
-use Prim.Native.Nat.{ℕ, _-_, _/_, _<_}
+use Prim.Native.Nat.{ℕ, _-_, _/_}
 use native.Mathlib.Omega.{arith}
-use lib.ListN.{length, List·getD-eq-default}
+use lib.ListN.{length}
 use Rattle.hexadecimal.specs.Text.{Text, bytes, wrong, textOf}
-use Rattle.frame_reader.specs.Frames.{refused, kindOf, rightLength, saidAs, saidWith, saidIn, saidBy}
+use Rattle.frame_kinds.specs.Frames.{refused, saidWith}
+use Rattle.frame_kinds.proofs.Readings.{said-wrong, refused-because, kind-wrong}
+use Rattle.frame_reader.specs.Frames.{saidIn, saidBy}
 use Rattle.frame_reader.specs.Claims.{IsMalformed, empty, not-closed, wrong-digit, odd-digits, unknown-kind, wrong-length, RefusalRule}
 use Rattle.frame_reader.proofs.Outcomes.{Right, Unread, unclosed, no-digit, odd, Outcome, right, unread, outcome}
-use Rattle.frame_reader.proofs.Readings.{said-right, said-wrong}
-
--- A kind, with the bytes after it, by whether their number is right.
-module _ (kind : ℕ) (rest : List ℕ) where
-  abbrev fits : Bool
-  fits = rightLength (kindOf kind .layout) (length rest)
-
-  because-length : (number : ℕ) → saidAs kind rest ≡ refused number → (number ≡ 5) × (fits ≡ false)
-  because-length number q = go fits refl
-    where
-      go : (t : Bool) → fits ≡ t → (number ≡ 5) × (fits ≡ false)
-      go true e = let z : _≡_ {A = ℕ} 0 1 = cc (said-right kind rest e) in absurd (omega arith)
-      go false e = (cc (said-wrong kind rest e), e)
-
-kind-wrong : (kind n : ℕ) → (kind < 1) ⊎ (5 < kind) → rightLength (kindOf kind .layout) n ≡ false
-unfolding kindOf rightLength
-kind-wrong kind n (inl h) = rw first
-  where
-    first : kind ≡ 0
-    first = omega arith
-kind-wrong kind n (inr h) = rw List·getD-eq-default
 
 -- The number of bytes after the kind, by the length of the line.
 rest-size : (line rest : List ℕ) (kind : ℕ) → Right line (kind ∷ rest) → (length line - 1) / 2 - 1 ≡ length rest
@@ -55,7 +34,7 @@ because-right : (line frame : List ℕ) (number : ℕ) → Right line frame → 
 unfolding saidWith
 because-right line [] number r q = (cc, empty (omega (arith, r .size)))
 because-right line (kind ∷ rest) number r q =
-    let b = because-length kind rest number q in
+    let b = refused-because kind rest number q in
     (b .0, wrong-length (rw (← r .kind (omega arith), rest-size line rest kind r) (b .1)))
 
 because-unread : (line : List ℕ) → Unread line → IsMalformed line

@@ -1,15 +1,15 @@
--- What is proved of lines and frames: `Reads` is all of it. Its proof is proofs/Results.antt.
+-- What is proved of lines and the frames that they hold: `Reads` is all of it. Its proof is proofs/Results.antt.
 use Prim.Native.Nat.{ℕ, suc, _+_, _-_, _*_, _/_, _%_, _≤_, _<_}
 use mathlib.Core.Path.{_≡_}
-use mathlib.Core.Logic.{_⊎_, _↔_}
-use mathlib.Core.Bool.{true, false}
+use mathlib.Core.Logic.{_⊎_}
+use mathlib.Core.Bool.{false}
 use mathlib.Core.List.{List, [], _∷_, _++_, map}
 use lib.ListN.{length, take, drop, getD}
 use Rattle.hexadecimal.specs.Text.{lineFeed, valueOf}
-use Rattle.frame_reader.specs.declared.Frame.the-variants.{Malformed, Machine, Power, Admit, Retire, PlanWanted}
-use Rattle.frame_reader.specs.declared.Reading.{Reading}
+use Rattle.frame_kinds.specs.declared.Frame.the-variants.{Power}
+use Rattle.frame_kinds.specs.Frames.{says, refused, kindOf, rightLength, said, readingOf}
 use Rattle.frame_reader.specs.Lines.{linesOf, lineEnd}
-use Rattle.frame_reader.specs.Frames.{says, refused, kindOf, rightLength, saidBy, said, readingOf}
+use Rattle.frame_reader.specs.Frames.{saidBy}
 
 -- ---- The lines of a sheet
 
@@ -65,29 +65,11 @@ pub record RefusalRule (line : List ℕ) : Type 0 where
   pub refuses : IsMalformed line → saidBy line ≡ refused 5
   pub because : (number : ℕ) → saidBy line ≡ refused number → (number ≡ 5) × IsMalformed line
 
--- The right numbers of bytes after each kind.
-pub record LengthRule (n : ℕ) : Type 0 where
-  pub machine : (rightLength (kindOf 1 .layout) n ≡ true) ↔ (n ≡ 6)
-  -- "For kind 02 wrong means not 4 to 128 bytes in fours after the kind."
-  pub power : (rightLength (kindOf 2 .layout) n ≡ true) ↔ ((4 ≤ n) × (n ≤ 128) × (n % 4 ≡ 0))
-  pub admit : (rightLength (kindOf 3 .layout) n ≡ true) ↔ (n ≡ 6)
-  pub retire : (rightLength (kindOf 4 .layout) n ≡ true) ↔ (n ≡ 2)
-  pub plan-wanted : (rightLength (kindOf 5 .layout) n ≡ true) ↔ (n ≡ 0)
-
 -- ---- Frames
 
 -- The answer for what a line says loses nothing of it.
 abbrev pub Faithful : Type 0
 Faithful = (line : List ℕ) → said (readingOf (saidBy line)) ≡ saidBy line
-
--- What each case of an answer says.
-pub record AnswerRule (reading : Reading) : Type 0 where
-  pub malformed : reading .frame ≡ Malformed → said reading ≡ refused 5
-  pub machine : (m l b d : ℕ) → reading .frame ≡ Machine m l b d → said reading ≡ says 1 (m ∷ l ∷ b ∷ d ∷ [])
-  pub power : (count : ℕ) → reading .frame ≡ Power count → said reading ≡ says 2 (take count (reading .values))
-  pub admit : (id cost period : ℕ) → reading .frame ≡ Admit id cost period → said reading ≡ says 3 (id ∷ cost ∷ period ∷ [])
-  pub retire : (id : ℕ) → reading .frame ≡ Retire id → said reading ≡ says 4 (id ∷ [])
-  pub plan-wanted : reading .frame ≡ PlanWanted → said reading ≡ says 5 []
 
 -- The values of a power frame are 1 to 32.
 abbrev pub CountRule : Type 0
@@ -129,9 +111,7 @@ pub record FrameTrials : Type 0 where
 pub record Reads : Type 0 where
   pub line-rule : (sheet : List ℕ) → LineRule sheet
   pub refusal-rule : (line : List ℕ) → RefusalRule line
-  pub length-rule : (n : ℕ) → LengthRule n
   pub faithful : Faithful
-  pub answer-rule : (reading : Reading) → AnswerRule reading
   pub count-rule : CountRule
   pub line-trials : LineTrials
   pub frame-trials : FrameTrials

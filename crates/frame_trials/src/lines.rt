@@ -1,6 +1,6 @@
 // Lines by themselves. Above each is what it must print, and why.
 use crate::print;
-use frame_reader::Frame;
+use frame_kinds::Frame;
 
 fn read(line: &[u8]) {
     let got = frame_reader::read_line(line);

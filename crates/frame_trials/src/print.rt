@@ -1,6 +1,6 @@
 // What the trials print.
-use frame_reader::Frame;
-use frame_reader::Reading;
+use frame_kinds::Frame;
+use frame_kinds::Reading;
 use libc::STDOUT_FILENO;
 
 pub fn text(bytes: &[u8]) {

@@ -1,5 +1,5 @@
 -- What an answer says, and what a caller is told by its case.
-use mathlib.Core.Path.{_≡_, refl, ap, _∙_, subst}
+use mathlib.Core.Path.{_≡_, refl, ap, subst}
 use mathlib.Core.Bool.{Bool, true, false, _&&_}
 use mathlib.Core.List.{List, [], _∷_}
 use Prim.Native.Nat.{ℕ, _-_, _/_, _%_, _≤_}
@@ -7,17 +7,16 @@ use native.Mathlib.Omega.{arith}
 use lib.Dec.{leb, eqb}
 use lib.ListN.{length, replicate}
 use lib.Seq.{take-at}
-use Rattle.frame_reader.specs.declared.Frame.{Frame}
-use Rattle.frame_reader.specs.declared.Frame.the-variants.{Malformed, Machine, Power, Admit, Retire, PlanWanted}
-use Rattle.frame_reader.specs.declared.Reading.{Reading}
-use Rattle.hexadecimal.specs.Text.{Text, bytes, wrong, textOf}
-use Rattle.frame_reader.specs.Frames.{Said, says, refused, kindOf, rightLength, widthsIn, numbersFrom, saidAs, saidWith, saidIn, saidBy, saidOf, said, besideOf, readingOf}
-use Rattle.frame_reader.specs.Claims.{AnswerRule, CountRule}
-use Rattle.frame_reader.proofs.Lengths.{length-rule}
-use Rattle.frame_reader.proofs.Readings.{said-right, said-wrong, each-kind}
-use Rattle.frame_reader.proofs.Numbers.{numbers-length}
+use Rattle.frame_kinds.specs.declared.Frame.{Frame}
+use Rattle.frame_kinds.specs.declared.Frame.the-variants.{Malformed, Machine, Power, Admit, Retire, PlanWanted}
+use Rattle.frame_kinds.specs.declared.Reading.{Reading}
+use Rattle.frame_kinds.specs.Frames.{Said, says, refused, kindOf, rightLength, widthsIn, numbersFrom, saidAs, saidWith, saidOf, said, besideOf, readingOf}
+use Rattle.frame_kinds.specs.Claims.{Faithful, AnswerRule, CountRule}
+use Rattle.frame_kinds.proofs.Lengths.{length-rule}
+use Rattle.frame_kinds.proofs.Readings.{said-right, said-wrong, each-kind}
+use Rattle.frame_kinds.proofs.Numbers.{numbers-length}
 
--- ---- An answer says what the line says
+-- ---- An answer says what the bytes say
 
 faithful-test : (test : Bool) (kind : ℕ) (numbers : List ℕ) → said (readingOf (says kind numbers)) ≡ says kind numbers
     → said (readingOf (elim test [ true ↦ says kind numbers | false ↦ refused 5 ])) ≡ elim test [ true ↦ says kind numbers | false ↦ refused 5 ]
@@ -42,19 +41,10 @@ faithful-as kind rest =
     ns : List ℕ
     ns = numbersFrom rest 0 (replicate (length rest / 4) 4)
 
-faithful-in : (text : Text) → said (readingOf (saidIn text)) ≡ saidIn text
-unfolding saidIn saidWith said saidOf readingOf
-faithful-in wrong = refl
-faithful-in (bytes []) = refl
-faithful-in (bytes (kind ∷ rest)) = faithful-as kind rest
-
-pub faithful : (line : List ℕ) → said (readingOf (saidBy line)) ≡ saidBy line
-unfolding saidBy
-faithful line = faithful-in (textOf line)
-
--- Of an answer that is the reading of a line.
-pub as-said : (line : List ℕ) (reading : Reading) → reading ≡ readingOf (saidBy line) → (reading ≡ readingOf (saidBy line)) × (said reading ≡ saidBy line)
-as-said line reading e = (e, ap said e ∙ faithful line)
+pub faithful : Faithful
+unfolding saidWith said saidOf readingOf
+faithful [] = refl
+faithful (kind ∷ rest) = faithful-as kind rest
 
 -- ---- What a caller is told
 
@@ -79,7 +69,7 @@ counted (Retire id) = 1
 counted PlanWanted = 1
 
 abbrev Counts : Said → Type 0
-Counts line = (1 ≤ counted (readingOf line .frame)) × (counted (readingOf line .frame) ≤ 32)
+Counts what = (1 ≤ counted (readingOf what .frame)) × (counted (readingOf what .frame) ≤ 32)
 
 counts-refused : Counts (refused 5)
 unfolding readingOf
@@ -113,12 +103,10 @@ counts-as kind rest =
     (λ more. counts-refused)
     kind
 
-counts-in : (text : Text) → Counts (saidIn text)
-unfolding saidIn saidWith
-counts-in wrong = counts-refused
-counts-in (bytes []) = counts-refused
-counts-in (bytes (kind ∷ rest)) = counts-as kind rest
+counts-with : (frame : List ℕ) → Counts (saidWith frame)
+unfolding saidWith
+counts-with [] = counts-refused
+counts-with (kind ∷ rest) = counts-as kind rest
 
 pub count-rule : CountRule
-unfolding saidBy
-count-rule line count e = subst (λ (f : Frame). (1 ≤ counted f) × (counted f ≤ 32)) e (counts-in (textOf line))
+count-rule frame count e = subst (λ (f : Frame). (1 ≤ counted f) × (counted f ≤ 32)) e (counts-with frame)

@@ -1,12 +1,12 @@
--- `frame_reader::read_bytes` meets its contract: one arm for each kind, and one for those that are none.
+-- `frame_kinds::read_bytes` meets its contract: one arm for each kind, and one for those that are none.
 use mathlib.Core.Path.{_≡_, refl, ap, _∙_}
 use mathlib.Core.Logic.{⊎-elim}
 use native.Mathlib.Omega.{arith}
 use lib.ListN.{getD}
-use Rattle.frame_reader.specs.Frames.{saidAs, saidWith, readingOf}
-use Rattle.frame_reader.proofs.Readings.{no-bytes, some-bytes, kind-zero, unknown-kind}
-use Rattle.frame_reader.proofs.read_bytes.Statement.{statement}
-use Rattle.frame_reader.proofs.read_bytes.Tie as tie
+use Rattle.frame_kinds.specs.Frames.{saidAs, saidWith, readingOf}
+use Rattle.frame_kinds.proofs.Readings.{no-bytes, some-bytes, kind-zero, unknown-kind}
+use Rattle.frame_kinds.proofs.read_bytes.Statement.{statement}
+use Rattle.frame_kinds.proofs.read_bytes.Tie as tie
 
 alone-requires : tie.Need-alone-requires
 alone-requires c κs = tt

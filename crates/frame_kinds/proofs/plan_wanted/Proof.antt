@@ -1,9 +1,9 @@
--- `frame_reader::plan_wanted` meets its contract: nothing follows the kind.
+-- `frame_kinds::plan_wanted` meets its contract: nothing follows the kind.
 use mathlib.Core.Path.{_∙_}
 use native.Mathlib.Omega.{arith}
-use Rattle.frame_reader.proofs.Readings.{plan-right, plan-wrong}
-use Rattle.frame_reader.proofs.plan_wanted.Statement.{statement}
-use Rattle.frame_reader.proofs.plan_wanted.Tie as tie
+use Rattle.frame_kinds.proofs.Readings.{plan-right, plan-wrong}
+use Rattle.frame_kinds.proofs.plan_wanted.Statement.{statement}
+use Rattle.frame_kinds.proofs.plan_wanted.Tie as tie
 
 alone-requires : tie.Need-alone-requires
 alone-requires c κs = tt

@@ -5,8 +5,8 @@ use mathlib.Core.Bool.{Bool, true, false, _&&_, and-eq-true-iff}
 use Prim.Native.Nat.{ℕ, _≤_, _%_}
 use lib.Dec.{leb, eqb}
 use borrow.Author.Tests.{le-leb, eq-eqb, leb-true, eqb-true}
-use Rattle.frame_reader.specs.Frames.{kindOf, rightLength}
-use Rattle.frame_reader.specs.Claims.{LengthRule}
+use Rattle.frame_kinds.specs.Frames.{kindOf, rightLength}
+use Rattle.frame_kinds.specs.Claims.{LengthRule}
 
 -- 4 to 128 bytes in fours.
 in-fours : (n : ℕ) → (leb 4 n && leb n 128 && eqb (n % 4) 0 ≡ true) ↔ ((4 ≤ n) × (n ≤ 128) × (n % 4 ≡ 0))
