@@ -1,4 +1,5 @@
 pub mod Sums
+pub mod Suffixes
 pub mod Largest
 pub mod Capacity
 pub mod Raise

@@ -16,8 +16,8 @@ use Rattle.gmf.specs.Capacity.{largest, level}
 use Rattle.gmf.specs.Growing.{Grown, NoPlan, demand, step, steps, growing, planOf}
 use Rattle.gmf.proofs.Largest.{largest-zero}
 use Rattle.gmf.proofs.Steps.{paper-loop}
+use Rattle.selection.specs.Turns.{noneTaken}
 use Rattle.workload.specs.declared.Verdict.the-variants.{SomePlan}
-use Rattle.workload.specs.Turns.{noneTaken}
 use Rattle.growing.specs.declared.Plan.{Plan}
 use Rattle.growing.specs.Plan.{planFrom}
 use Rattle.growing.proofs.Levels.{Slowest, slowest-begin, slowest-next, slowest-up, plan-padded}

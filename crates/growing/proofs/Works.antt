@@ -18,9 +18,9 @@ use Rattle.gmf.specs.Capacity.{sum, largest}
 use Rattle.gmf.specs.Growing.{demand}
 use Rattle.gmf.proofs.Largest.{largest-zero, largest-some, largest-all}
 use Rattle.gmf.proofs.Capacity.{demand-part, demand-whole}
-use Rattle.workload.specs.Turns.{noneTaken, nextAfter, turn}
+use Rattle.selection.specs.Turns.{noneTaken, nextAfter, turn}
+use Rattle.selection.proofs.Turns.{takes-in-turn, turn-work, turn-every}
 use Rattle.workload.proofs.Loads.{works-bound}
-use Rattle.workload.proofs.Turns.{takes-in-turn, turn-work, turn-every}
 
 -- ---- What growing is over: a machine and jobs in range, by rising id, in a hyperperiod within its limit
 

@@ -9,12 +9,12 @@ ghost use Rattle.workload.specs.Load.{totals};
 ghost use Rattle.growing.specs.Plan.{planFrom, planned, withoutPlan};
 use gmf::Job;
 use gmf::Machine;
+use selection::next_job;
+use selection::none_taken;
 use workload::Load;
 use workload::Totals;
 use workload::Verdict;
 use workload::load_of;
-use workload::next_job;
-use workload::none_taken;
 
 // A level for each processor, and zeros after the last; the count of raises; the hyperperiod. All zeros where there is no plan.
 pub struct Plan {

@@ -1,11 +1,10 @@
--- Loads and an order of jobs, computed from the definitions.
+-- Loads, computed from the definitions.
 use mathlib.Core.Path.{refl}
 use Rattle.number.specs.Divisors.{euclid, gcd, lcm}
 use Rattle.gmf.specs.Jobs.{ifWithin, window, hyperperiod, work, works}
 use Rattle.gmf.specs.Trials.{jobsFrom}
 use Rattle.workload.specs.Load.{limited, costsFit, totals, loadOf}
-use Rattle.workload.specs.Turns.{hasMore, comesBefore, noneTaken, idle, nextOf, nextAfter, turn}
-use Rattle.workload.specs.Claims.{LoadTrials, TurnTrial}
+use Rattle.workload.specs.Claims.{LoadTrials}
 
 pub load-trials : LoadTrials
 unfolding euclid gcd lcm ifWithin window hyperperiod work works jobsFrom limited costsFit totals loadOf
@@ -21,7 +20,3 @@ load-trials = record {
   unfit-last = refl;
   unfit = refl;
 }
-
-pub turn-trial : TurnTrial
-unfolding window hasMore comesBefore noneTaken idle nextOf nextAfter turn
-turn-trial = refl

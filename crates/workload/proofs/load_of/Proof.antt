@@ -7,11 +7,11 @@ use borrow.Author.Needs.{needs}
 use lib.ListN.{length, getD, take, drop}
 use Rattle.gmf.specs.declared.Job.{Job}
 use Rattle.gmf.specs.Jobs.{JobInRange, Every, hyperperiod, hyperperiodLimit, works}
+use Rattle.gmf.proofs.Suffixes.{suffix-more, suffix-none, suffix-length}
 use Rattle.gmf.proofs.Hyperperiod.{in-range-positive}
 use Rattle.workload.specs.Load.{costsFit, totals, loadOf, withJob}
 use Rattle.workload.specs.declared.Load.the-variants.{Within}
-use Rattle.workload.proofs.Loads.{load-more, above-drop, load-within, load-above, says-within, says-too-long, totals-range}
-use Rattle.workload.proofs.Suffixes.{every-drop, suffix-more, suffix-none, suffix-length}
+use Rattle.workload.proofs.Loads.{load-more, every-drop, above-drop, load-within, load-above, says-within, says-too-long, totals-range}
 use Rattle.workload.proofs.load_of.Statement.{statement}
 use Rattle.workload.proofs.load_of.Tie as tie
 

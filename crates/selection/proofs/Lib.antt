@@ -1,0 +1,6 @@
+pub mod Examples
+pub mod Order
+pub mod Shares
+pub mod Sorted
+pub mod Turns
+pub mod Results
