@@ -1,7 +1,7 @@
 -- What a call on a roster replies, as the code finds it.
 use Prim.Native.Nat.{ℕ, suc, _+_, _-_, _*_, _≤_, _<_}
 use native.Mathlib.Omega.{arith}
-use mathlib.Core.Path.{_≡_, refl, sym, ap, subst, _∙_}
+use mathlib.Core.Path.{_≡_, refl, sym, ap, ap₂, subst, _∙_}
 use mathlib.Core.Bool.{Bool, true, false}
 use mathlib.Core.List.{List, [], _∷_, _++_}
 use borrow.Author.Tests.{lt-ltb}
@@ -31,6 +31,7 @@ use Rattle.planner.specs.declared.Reply.{Reply}
 use Rattle.planner.specs.declared.Answer.the-variants.{Accepted}
 use Rattle.planner.specs.declared.Condition.{Condition}
 use Rattle.planner.specs.declared.Condition.the-variants as condition
+use Rattle.planner.specs.declared.Refusal.{Refusal}
 use Rattle.planner.specs.declared.Refusal.the-variants.{Damaged, NoMachine, MachineOpen, IdHeld, IdNotHeld, PlacesFull, CycleTooLong, NoPlan}
 use Rattle.planner.specs.Tests.{isTable, tooLong}
 use Rattle.planner.specs.Model.{
@@ -111,6 +112,11 @@ module _ (r : Roster) where
           )
 
 -- ---- Calls by their outcome
+
+-- The right refusal, with the roster that came.
+pub refused-by : {result answer : Reply} {lent : Roster} {given : Refusal} (r : Roster) (right : Refusal)
+    → result ≡ replied lent (refused given) → lent ≡ r → given ≡ right → replied r (refused right) ≡ answer → result ≡ answer
+refused-by r right e same f g = e ∙ ap₂ (λ (q : Roster) (x : Refusal). replied q (refused x)) same f ∙ g
 
 pub reply-damaged : (r : Roster) (call : Call) → inspected r ≡ condition.Damaged → replied r (refused Damaged) ≡ replyTo r call
 unfolding replyTo

@@ -2,7 +2,7 @@
 use Prim.Native.Nat.{ℕ, _+_, _-_, _*_, _≤_, _<_}
 use native.Mathlib.Nat.{mul-le-mul}
 use native.Mathlib.Omega.{arith}
-use mathlib.Core.Path.{_≡_, refl, sym}
+use mathlib.Core.Path.{_≡_, refl, sym, ap, _∙_}
 use mathlib.Core.Logic.{_↔_}
 use mathlib.Core.Bool.{Bool, true, false, false≢true, _&&_}
 use mathlib.Core.List.{List}
@@ -132,9 +132,9 @@ module _ (r : Roster) where
               go true f = rw (e₁, e₂, e₃, e₄, f)
               go false f = rw (e₁, e₂, e₃, e₄)
 
-          pub shape-6 : (leb (r .held) 64 && listed (take (r .held) (r .jobs))) ≡ true → unused (drop (r .held) (r .jobs)) ≡ inShape r
+          shape-whole : (leb (r .held) 64 && listed (take (r .held) (r .jobs))) ≡ true → unused (drop (r .held) (r .jobs)) ≡ inShape r
           unfolding inShape
-          shape-6 e = go (leb (r .held) 64) e
+          shape-whole e = go (leb (r .held) 64) e
             where
               go : (b : Bool) → (b && listed (take (r .held) (r .jobs))) ≡ true
                   → unused (drop (r .held) (r .jobs)) ≡ (oneTo 32 (r .machine .processors) && speedsFit (r .machine .levels) (r .machine .lowest) (r .machine .step)
@@ -142,3 +142,8 @@ module _ (r : Roster) where
                   && b && listed (take (r .held) (r .jobs)) && unused (drop (r .held) (r .jobs)))
               go true f = rw (e₁, e₂, e₃, e₄, f)
               go false f = absurd (false≢true f)
+
+          -- The unused places from `start` on, which is where the jobs end.
+          pub shape-6 : (leb (r .held) 64 && listed (take (r .held) (r .jobs))) ≡ true
+              → (start : ℕ) → start ≡ r .held → unused (drop start (r .jobs)) ≡ inShape r
+          shape-6 e start same = ap (λ (n : ℕ). unused (drop n (r .jobs))) same ∙ shape-whole e

@@ -1,6 +1,6 @@
 -- `planner::Roster::admit` meets its contract.
 use native.Mathlib.Omega.{arith}
-use mathlib.Core.Path.{_≡_, sym, _∙_}
+use mathlib.Core.Path.{_≡_, refl, sym, _∙_}
 use mathlib.Core.Bool.{true}
 use borrow.Author.Needs.{needs}
 use borrow.Author.Tests.{not-true, not-false}
@@ -12,7 +12,8 @@ use Rattle.places.proofs.Results.{placing}
 use Rattle.workload.specs.Load.{totals}
 use Rattle.planner.specs.Claims.{IsSound}
 use Rattle.planner.proofs.Outcomes.{admit-4, admit-in}
-use Rattle.planner.proofs.Replies.{is-open, reply-damaged, reply-open, admit-11, entered}
+use Rattle.planner.specs.declared.Refusal.the-variants.{Damaged, JobNumbers, NoMachine}
+use Rattle.planner.proofs.Replies.{refused-by, is-open, reply-damaged, reply-open, admit-11, entered}
 use Rattle.planner.proofs.Roster.admit.Statement.{statement}
 use Rattle.planner.proofs.Roster.admit.Tie as tie
 
@@ -68,8 +69,8 @@ returns c =
     let f = c .before .before in
     let o = f .before .before in
     let s = o .before .before .before in
-    c .refuse3 .ensures
-    ∙ reply-open _ (entries s) (places s) (open-at o .0) _ _ (admit-4 _ _ _ _ _ _ (sym (f .job-fits .ensures) ∙ not-true _ (c .before .if1 .taken)))
+    refused-by (s .args .self) JobNumbers (c .refuse3 .ensures) refl refl
+    (reply-open _ (entries s) (places s) (open-at o .0) _ _ (admit-4 _ _ _ _ _ _ (sym (f .job-fits .ensures) ∙ not-true _ (c .before .if1 .taken))))
 
 cast-t14 : tie.Need-cast-t14
 cast-t14 c = omega (arith, in-range c .id)
@@ -86,12 +87,16 @@ enter-requires c κs = let o = open-at (c .before .before .before) in (o .0, o .
 returns-2 : tie.Need-returns-2
 returns-2 c =
     let t = c .before in
-    c .refuse .ensures ∙ reply-damaged _ _ (sym (t .before .before .inspect .ensures) ∙ t .enum-told .given .1)
+    let s = t .before .before .before in
+    refused-by (s .args .self) Damaged (c .refuse .ensures) refl refl
+    (reply-damaged _ _ (sym (t .before .before .inspect .ensures) ∙ t .enum-told .given .1))
 
 returns-3 : tie.Need-returns-3
 returns-3 c =
     let t = c .before in
-    c .refuse2 .ensures ∙ admit-11 _ (sym (t .before .before .inspect .ensures) ∙ t .enum-told2 .given .1) _ _ _
+    let s = t .before .before .before in
+    refused-by (s .args .self) NoMachine (c .refuse2 .ensures) refl refl
+    (admit-11 _ (sym (t .before .before .inspect .ensures) ∙ t .enum-told2 .given .1) _ _ _)
 
 returns-4 : tie.Need-returns-4
 returns-4 c =

@@ -1,11 +1,12 @@
 -- `planner::Roster::enter` meets its contract.
 use native.Mathlib.Omega.{arith}
-use mathlib.Core.Path.{_≡_, sym, _∙_}
+use mathlib.Core.Path.{_≡_, refl, sym, _∙_}
 use mathlib.Core.Bool.{false}
 use borrow.Author.Needs.{needs}
 use lib.ListN.{length, take, length-map}
 use Rattle.places.specs.Places.{has}
-use Rattle.planner.proofs.Replies.{held-listed, with-range, enter-held, enter-full, enter-long, enter-none, enter-in}
+use Rattle.planner.specs.declared.Refusal.the-variants.{CycleTooLong, IdHeld, NoPlan, PlacesFull}
+use Rattle.planner.proofs.Replies.{refused-by, held-listed, with-range, enter-held, enter-full, enter-long, enter-none, enter-in}
 use Rattle.planner.proofs.Roster.enter.Statement.{statement}
 use Rattle.planner.proofs.Roster.enter.Tie as tie
 
@@ -43,7 +44,8 @@ returns : tie.Need-returns
 returns c =
     let t = c .before .before in
     let s = t .before .before .before .before in
-    c .refuse .ensures ∙ enter-held _ (entries s) (places s) (s .pre .0) _ (sym (t .stands-at .ensures) ∙ c .before .if1 .taken)
+    refused-by (s .args .self) IdHeld (c .refuse .ensures) refl refl
+    (enter-held _ (entries s) (places s) (s .pre .0) _ (sym (t .stands-at .ensures) ∙ c .before .if1 .taken))
 
 refuse-requires-2 : tie.Need-refuse-requires-2
 refuse-requires-2 c κs = search needs
@@ -52,7 +54,8 @@ returns-2 : tie.Need-returns-2
 returns-2 c =
     let e = c .before .before in
     let s = e .before .before .before .before .before in
-    c .refuse2 .ensures ∙ enter-full _ (entries s) (places s) (s .pre .0) _ (fresh e) (c .before .if2 .taken)
+    refused-by (s .args .self) PlacesFull (c .refuse2 .ensures) refl refl
+    (enter-full _ (entries s) (places s) (s .pre .0) _ (fresh e) (c .before .if2 .taken))
 
 with-requires : tie.Need-with-requires
 with-requires c κs =
@@ -88,18 +91,18 @@ returns-3 c =
     let j = c .before .before .before in
     let e = j .before .before in
     let s = begin e in
-    c .refuse3 .ensures
-    ∙ enter-long _ (entries s) (places s) (s .pre .0) _ (fresh (e .before)) (e .if2 .left) (s .pre .2) _ (s .pre .1) _ (j .before .with .ensures)
-    (sym (j .judge .ensures) ∙ c .before .enum-told .given .1)
+    refused-by (s .args .self) CycleTooLong (c .refuse3 .ensures) refl refl
+    (enter-long _ (entries s) (places s) (s .pre .0) _ (fresh (e .before)) (e .if2 .left) (s .pre .2) _ (s .pre .1) _ (j .before .with .ensures)
+    (sym (j .judge .ensures) ∙ c .before .enum-told .given .1))
 
 returns-4 : tie.Need-returns-4
 returns-4 c =
     let j = c .before .before .before in
     let e = j .before .before in
     let s = begin e in
-    c .refuse4 .ensures
-    ∙ enter-none _ (entries s) (places s) (s .pre .0) _ (fresh (e .before)) (e .if2 .left) (s .pre .2) _ (s .pre .1) _ (j .before .with .ensures)
-    (sym (j .judge .ensures) ∙ c .before .enum-told2 .given .1)
+    refused-by (s .args .self) NoPlan (c .refuse4 .ensures) refl refl
+    (enter-none _ (entries s) (places s) (s .pre .0) _ (fresh (e .before)) (e .if2 .left) (s .pre .2) _ (s .pre .1) _ (j .before .with .ensures)
+    (sym (j .judge .ensures) ∙ c .before .enum-told2 .given .1))
 
 returns-5 : tie.Need-returns-5
 returns-5 c =

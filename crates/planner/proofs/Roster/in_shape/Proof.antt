@@ -1,7 +1,7 @@
 -- `planner::Roster::in_shape` meets its contract.
 use Prim.Native.Nat.{_-_, _≤_}
 use native.Mathlib.Omega.{arith}
-use mathlib.Core.Path.{_≡_, sym, ap, _∙_}
+use mathlib.Core.Path.{_≡_, refl, sym, ap, _∙_}
 use mathlib.Core.Bool.{true, false}
 use borrow.Author.Needs.{needs}
 use borrow.Author.Tests.{not-true, not-false}
@@ -146,7 +146,7 @@ returns-6 c =
     let t = z .before .before .before .before in
     let e = at-3 t in
     c .unused-from .ensures
-    ∙ shape-6 _ (counted (at-1 e)) (fitting e) (tabled t) (cleared z) (sym (l .before .listed-to .ensures) ∙ not-false _ (l .if5 .left))
+    ∙ shape-6 (held-by (at-2 e)) (counted (at-1 e)) (fitting e) (tabled t) (cleared z) (sym (l .before .listed-to .ensures) ∙ not-false _ (l .if5 .left)) _ refl
 
 pub in-shape-spec : {M : Type 1} → statement M
 in-shape-spec =

@@ -14,7 +14,10 @@ returns-2 : tie.Need-returns-2
 returns-2 c = zero-2 _ (c .before .before .if1 .left) (c .if2 .taken)
 
 returns-3 : tie.Need-returns-3
-returns-3 c = let b = c .before .before in zero-3 _ (b .before .before .if1 .left) (b .if2 .left) (c .if3 .taken)
+returns-3 c =
+    let b = c .before .before in
+    let a = b .before .before in
+    zero-3 (a .before .before .before .before .before .args .self) (a .if1 .left) (b .if2 .left) (c .if3 .taken)
 
 returns-4 : tie.Need-returns-4
 returns-4 c =

@@ -1,12 +1,13 @@
 -- `planner::Roster::leave` meets its contract.
 use native.Mathlib.Omega.{arith}
-use mathlib.Core.Path.{_≡_, sym, _∙_}
+use mathlib.Core.Path.{_≡_, refl, sym, _∙_}
 use mathlib.Core.Bool.{true}
 use borrow.Author.Needs.{needs}
 use borrow.Author.Tests.{not-true, not-false}
 use lib.ListN.{length, take, length-map}
 use Rattle.places.specs.Places.{has}
-use Rattle.planner.proofs.Replies.{held-listed, leave-missing, leave-some, leave-out}
+use Rattle.planner.specs.declared.Refusal.the-variants.{IdNotHeld}
+use Rattle.planner.proofs.Replies.{refused-by, held-listed, leave-missing, leave-some, leave-out}
 use Rattle.planner.proofs.Roster.leave.Statement.{statement}
 use Rattle.planner.proofs.Roster.leave.Tie as tie
 
@@ -41,8 +42,8 @@ returns : tie.Need-returns
 returns c =
     let t = c .before .before in
     let s = t .before .before .before .before in
-    c .refuse .ensures
-    ∙ leave-missing _ (entries s) (places s) (s .pre) _ (sym (t .stands-at .ensures) ∙ not-true _ (c .before .if1 .taken))
+    refused-by (s .args .self) IdNotHeld (c .refuse .ensures) refl refl
+    (leave-missing _ (entries s) (places s) (s .pre) _ (sym (t .stands-at .ensures) ∙ not-true _ (c .before .if1 .taken)))
 
 take-out-requires : tie.Need-take-out-requires
 take-out-requires c κs = search needs

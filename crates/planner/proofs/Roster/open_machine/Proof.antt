@@ -1,6 +1,6 @@
 -- `planner::Roster::open_machine` meets its contract.
 use native.Mathlib.Omega.{arith}
-use mathlib.Core.Path.{_≡_, sym, _∙_}
+use mathlib.Core.Path.{_≡_, refl, sym, _∙_}
 use mathlib.Core.Bool.{true}
 use borrow.Author.Needs.{needs}
 use borrow.Author.Tests.{not-true, not-false}
@@ -11,7 +11,8 @@ use Rattle.places.specs.Ranges.{oneTo}
 use Rattle.planner.specs.Tests.{speedsFit}
 use Rattle.planner.proofs.TestRules.{machine-range}
 use Rattle.planner.proofs.Outcomes.{open-1, open-2, open-0}
-use Rattle.planner.proofs.Replies.{is-open, reply-damaged, reply-closed, reply-opened, open-12}
+use Rattle.planner.specs.declared.Refusal.the-variants.{Damaged, MachineOpen, Processors, Speeds}
+use Rattle.planner.proofs.Replies.{refused-by, is-open, reply-damaged, reply-closed, reply-opened, open-12}
 use Rattle.planner.proofs.Roster.open_machine.Statement.{statement}
 use Rattle.planner.proofs.Roster.open_machine.Tie as tie
 
@@ -62,9 +63,10 @@ returns : tie.Need-returns
 returns c =
     let o = c .before .before in
     let t = o .before in
-    c .refuse3 .ensures
-    ∙ reply-closed _ (sym (t .before .before .inspect .ensures) ∙ t .enum-told3 .given .1) _ _
-    (open-1 _ _ _ _ (sym (o .one-to .ensures) ∙ not-true _ (c .before .if1 .taken)))
+    let s = t .before .before .before in
+    refused-by (s .args .self) Processors (c .refuse3 .ensures) refl refl
+    (reply-closed _ (sym (t .before .before .inspect .ensures) ∙ t .enum-told3 .given .1) _ _
+    (open-1 _ _ _ _ (sym (o .one-to .ensures) ∙ not-true _ (c .before .if1 .taken))))
 
 speeds-fit-requires : tie.Need-speeds-fit-requires
 speeds-fit-requires c κs = search needs
@@ -76,9 +78,10 @@ returns-2 : tie.Need-returns-2
 returns-2 c =
     let f = c .before .before in
     let t = f .before .before .before in
-    c .refuse4 .ensures
-    ∙ reply-closed _ (sym (t .before .before .inspect .ensures) ∙ t .enum-told3 .given .1) _ _
-    (open-2 _ _ _ _ (counted (f .before)) (sym (f .speeds-fit .ensures) ∙ not-true _ (c .before .if2 .taken)))
+    let s = t .before .before .before in
+    refused-by (s .args .self) Speeds (c .refuse4 .ensures) refl refl
+    (reply-closed _ (sym (t .before .before .inspect .ensures) ∙ t .enum-told3 .given .1) _ _
+    (open-2 _ _ _ _ (counted (f .before)) (sym (f .speeds-fit .ensures) ∙ not-true _ (c .before .if2 .taken))))
 
 cast-t17 : tie.Need-cast-t17
 unfolding machine
@@ -103,14 +106,16 @@ default-table-requires c κs = in-range c
 returns-3 : tie.Need-returns-3
 returns-3 c =
     let t = c .before in
-    c .refuse .ensures ∙ reply-damaged _ _ (sym (t .before .before .inspect .ensures) ∙ t .enum-told .given .1)
+    let s = t .before .before .before in
+    refused-by (s .args .self) Damaged (c .refuse .ensures) refl refl
+    (reply-damaged _ _ (sym (t .before .before .inspect .ensures) ∙ t .enum-told .given .1))
 
 returns-4 : tie.Need-returns-4
 returns-4 c =
     let t = c .before in
     let s = t .before .before .before in
-    c .refuse2 .ensures
-    ∙ open-12 _ (entries s) (places s) (is-open _ _ (entries s) (places s) (sym (t .before .before .inspect .ensures) ∙ t .enum-told2 .given .1) .0) _ _ _ _
+    refused-by (s .args .self) MachineOpen (c .refuse2 .ensures) refl refl
+    (open-12 _ (entries s) (places s) (is-open _ _ (entries s) (places s) (sym (t .before .before .inspect .ensures) ∙ t .enum-told2 .given .1) .0) _ _ _ _)
 
 returns-5 : tie.Need-returns-5
 unfolding machine

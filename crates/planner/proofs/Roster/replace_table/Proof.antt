@@ -1,6 +1,6 @@
 -- `planner::Roster::replace_table` meets its contract.
 use native.Mathlib.Omega.{arith}
-use mathlib.Core.Path.{_≡_, sym, _∙_}
+use mathlib.Core.Path.{_≡_, refl, sym, _∙_}
 use mathlib.Core.Bool.{true}
 use borrow.Author.Needs.{needs}
 use borrow.Author.Tests.{not-true, not-false}
@@ -9,7 +9,8 @@ use Rattle.planner.specs.Claims.{IsSound}
 use Rattle.planner.proofs.TestRules.{is-table}
 use Rattle.planner.proofs.Shapes.{accepted-table}
 use Rattle.planner.proofs.Outcomes.{table-3, table-0}
-use Rattle.planner.proofs.Replies.{is-open, reply-damaged, reply-open, reply-table, table-11}
+use Rattle.planner.specs.declared.Refusal.the-variants.{Damaged, NoMachine, PowerTable}
+use Rattle.planner.proofs.Replies.{refused-by, is-open, reply-damaged, reply-open, reply-table, table-11}
 use Rattle.planner.proofs.Roster.replace_table.Statement.{statement}
 use Rattle.planner.proofs.Roster.replace_table.Tie as tie
 
@@ -53,9 +54,9 @@ returns c =
     let a = c .before .before in
     let t = a .before .before .before in
     let s = t .before .before .before .before in
-    c .refuse3 .ensures
-    ∙ reply-open _ (entries s) (places s) (open-at t) _ _
-    (table-3 _ _ _ _ (sym (accepted-table _ _ _ (a .accepts .ensures)) ∙ not-true _ (c .before .if1 .taken)))
+    refused-by (s .args .self) PowerTable (c .refuse3 .ensures) refl refl
+    (reply-open _ (entries s) (places s) (open-at t) _ _
+    (table-3 _ _ _ _ (sym (accepted-table _ _ _ (a .accepts .ensures)) ∙ not-true _ (c .before .if1 .taken))))
 
 entries-of-requires : tie.Need-entries-of-requires
 entries-of-requires c κs = search needs
@@ -63,12 +64,16 @@ entries-of-requires c κs = search needs
 returns-2 : tie.Need-returns-2
 returns-2 c =
     let t = c .before in
-    c .refuse .ensures ∙ reply-damaged _ _ (sym (t .before .before .inspect .ensures) ∙ t .enum-told .given .1)
+    let s = t .before .before .before .before in
+    refused-by (s .args .self) Damaged (c .refuse .ensures) refl refl
+    (reply-damaged _ _ (sym (t .before .before .inspect .ensures) ∙ t .enum-told .given .1))
 
 returns-3 : tie.Need-returns-3
 returns-3 c =
     let t = c .before in
-    c .refuse2 .ensures ∙ table-11 _ (sym (t .before .before .inspect .ensures) ∙ t .enum-told2 .given .1) _
+    let s = t .before .before .before .before in
+    refused-by (s .args .self) NoMachine (c .refuse2 .ensures) refl refl
+    (table-11 _ (sym (t .before .before .inspect .ensures) ∙ t .enum-told2 .given .1) _)
 
 returns-4 : tie.Need-returns-4
 returns-4 c =

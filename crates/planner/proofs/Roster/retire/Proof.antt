@@ -1,6 +1,6 @@
 -- `planner::Roster::retire` meets its contract.
 use native.Mathlib.Omega.{arith}
-use mathlib.Core.Path.{_≡_, sym, _∙_}
+use mathlib.Core.Path.{_≡_, refl, sym, _∙_}
 use mathlib.Core.Bool.{true}
 use borrow.Author.Needs.{needs}
 use borrow.Author.Tests.{not-true, not-false}
@@ -9,7 +9,8 @@ use Rattle.places.specs.Ranges.{oneTo}
 use Rattle.planner.specs.Claims.{IsSound}
 use Rattle.planner.proofs.TestRules.{one-to}
 use Rattle.planner.proofs.Outcomes.{retire-4, retire-in}
-use Rattle.planner.proofs.Replies.{is-open, reply-damaged, reply-open, retire-11, entered}
+use Rattle.planner.specs.declared.Refusal.the-variants.{Damaged, JobNumbers, NoMachine}
+use Rattle.planner.proofs.Replies.{refused-by, is-open, reply-damaged, reply-open, retire-11, entered}
 use Rattle.planner.proofs.Roster.retire.Statement.{statement}
 use Rattle.planner.proofs.Roster.retire.Tie as tie
 
@@ -56,8 +57,8 @@ returns c =
     let f = c .before .before in
     let o = f .before in
     let s = o .before .before .before in
-    c .refuse3 .ensures
-    ∙ reply-open _ (entries s) (places s) (open-at o) _ _ (retire-4 _ _ _ _ (sym (f .one-to .ensures) ∙ not-true _ (c .before .if1 .taken)))
+    refused-by (s .args .self) JobNumbers (c .refuse3 .ensures) refl refl
+    (reply-open _ (entries s) (places s) (open-at o) _ _ (retire-4 _ _ _ _ (sym (f .one-to .ensures) ∙ not-true _ (c .before .if1 .taken))))
 
 cast-leave : tie.Need-cast-leave
 cast-leave c = omega (arith, one-to 65535 _ (ranged c))
@@ -68,12 +69,16 @@ leave-requires c κs = open-at (c .before .before)
 returns-2 : tie.Need-returns-2
 returns-2 c =
     let t = c .before in
-    c .refuse .ensures ∙ reply-damaged _ _ (sym (t .before .before .inspect .ensures) ∙ t .enum-told .given .1)
+    let s = t .before .before .before in
+    refused-by (s .args .self) Damaged (c .refuse .ensures) refl refl
+    (reply-damaged _ _ (sym (t .before .before .inspect .ensures) ∙ t .enum-told .given .1))
 
 returns-3 : tie.Need-returns-3
 returns-3 c =
     let t = c .before in
-    c .refuse2 .ensures ∙ retire-11 _ (sym (t .before .before .inspect .ensures) ∙ t .enum-told2 .given .1) _
+    let s = t .before .before .before in
+    refused-by (s .args .self) NoMachine (c .refuse2 .ensures) refl refl
+    (retire-11 _ (sym (t .before .before .inspect .ensures) ∙ t .enum-told2 .given .1) _)
 
 returns-4 : tie.Need-returns-4
 returns-4 c =
