@@ -3,36 +3,33 @@ use Prim.Native.Nat.{ℕ, zero, suc, _≤_, _<_}
 use native.Mathlib.Omega.{arith}
 use mathlib.Core.Path.{_≡_, refl, ap, ap₂, _∙_}
 use mathlib.Core.Logic.{_↔_}
-use mathlib.Core.Bool.{Bool, true, _&&_, and-eq-true-iff}
+use mathlib.Core.Bool.{true, _&&_}
 use mathlib.Core.List.{List, [], _∷_}
 use borrow.Author.Tests.{leb-true, le-leb, ltb-true, lt-ltb, eqb-true}
 use lib.ListN.{length, replicate}
 use Rattle.gmf.specs.declared.Job.{Job}
 use Rattle.gmf.specs.Jobs.{JobInRange, ByRisingId, Every}
 use Rattle.gmf.specs.Trials.{job}
+use Rattle.gmf.proofs.Sums.{both-true}
 use Rattle.gmf.proofs.Hyperperiod.{every-map}
 use Rattle.places.specs.Ranges.{oneTo, jobFits}
 use Rattle.places.specs.Places.{noJob, unused, listedAfter, listed}
 use Rattle.places.specs.Claims.{TestRule}
-
--- Both of two tests hold.
-both : (a b : Bool) → a && b ≡ true → (a ≡ true) × (b ≡ true)
-both a b = and-eq-true-iff a b .0
 
 -- ---- A number and a job
 
 number-rule : (n x : ℕ) → (oneTo n x ≡ true) ↔ ((1 ≤ x) × (x ≤ n))
 unfolding oneTo
 number-rule n x = (
-  λ t. let p = both _ _ t in (leb-true 1 x (p .0), leb-true x n (p .1)),
+  λ t. let p = both-true _ _ t in (leb-true 1 x (p .0), leb-true x n (p .1)),
   λ h. ap₂ _&&_ (le-leb 1 x (h .0)) (le-leb x n (h .1)),
 )
 
 job-rule : (id cost period : ℕ) → (jobFits id cost period ≡ true) ↔ JobInRange (job id cost period)
 unfolding jobFits
 job-rule id cost period = (
-  λ t. let p = both _ _ t in
-      let q = both _ _ (p .0) in
+  λ t. let p = both-true _ _ t in
+      let q = both-true _ _ (p .0) in
       record {
         id = number-rule 65535 id .0 (q .0);
         cost = number-rule 65535 cost .0 (q .1);
@@ -53,8 +50,8 @@ module _ (last : ℕ) (job : Job) (jobs : List Job) where
   pub listed-first : listedAfter last (job ∷ jobs) ≡ true → First
   unfolding listedAfter
   listed-first t =
-      let p = both _ _ t in
-      let q = both _ _ (p .0) in
+      let p = both-true _ _ t in
+      let q = both-true _ _ (p .0) in
       record {
         above = ltb-true last (job .id) (q .0);
         in-range = job-rule (job .id) (job .cost) (job .period) .0 (q .1);
@@ -114,9 +111,9 @@ unused-told : (places : List Job) → unused places ≡ true → places ≡ repl
 unfolding unused
 unused-told [] t = refl
 unused-told (place ∷ places) t =
-    let p = both _ _ t in
-    let q = both _ _ (p .0) in
-    let r = both _ _ (q .0) in
+    let p = both-true _ _ t in
+    let q = both-true _ _ (p .0) in
+    let r = both-true _ _ (q .0) in
     ap₂ _∷_ (same-job place noJob (eqb-true _ _ (r .0)) (eqb-true _ _ (r .1)) (eqb-true _ _ (q .1))) (unused-told places (p .1))
 
 unused-pad : (n : ℕ) → unused (replicate n noJob) ≡ true

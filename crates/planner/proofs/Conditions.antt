@@ -1,15 +1,13 @@
 -- What a roster is found to be, by each way out of `inspect`, and what follows where it is open.
-use Prim.Native.Nat.{ℕ, _≤_, _<_}
-use native.Mathlib.Omega.{arith}
-use mathlib.Core.Path.{_≡_, refl, sym, ap, subst, _∙_}
-use mathlib.Core.Bool.{Bool, true, false, not}
+use Prim.Native.Nat.{_<_}
+use mathlib.Core.Path.{_≡_, sym, ap, subst, _∙_}
+use mathlib.Core.Bool.{true, false}
 use mathlib.Core.List.{List}
 use borrow.Author.Tests.{lt-ltb}
 use lib.ListN.{length, take}
-use Rattle.gmf.specs.declared.Machine.{Machine}
 use Rattle.gmf.specs.declared.Job.{Job}
 use Rattle.gmf.specs.Machine.{InRange}
-use Rattle.gmf.specs.Jobs.{JobInRange, Every, hyperperiod, hyperperiodLimit}
+use Rattle.gmf.specs.Jobs.{hyperperiod, hyperperiodLimit}
 use Rattle.gmf.proofs.Hyperperiod.{in-range-positive}
 use Rattle.workload.specs.declared.Totals.{Totals}
 use Rattle.workload.specs.declared.Load.{Load}
@@ -17,17 +15,16 @@ use Rattle.workload.specs.declared.Load.the-variants.{Within}
 use Rattle.workload.specs.declared.Load.the-variants as load
 use Rattle.workload.specs.declared.Verdict.{Verdict}
 use Rattle.workload.specs.declared.Verdict.the-variants as verdict
-use Rattle.workload.specs.Load.{totals, loadOf, judged}
+use Rattle.workload.specs.Load.{loadOf, judged}
 use Rattle.workload.specs.Claims.{Tells}
 use Rattle.workload.proofs.Loads.{says-within, says-too-long}
 use Rattle.workload.proofs.Results.{workload}
 use Rattle.planner.specs.declared.Roster.{Roster}
 use Rattle.planner.specs.declared.Condition.{Condition}
 use Rattle.planner.specs.declared.Condition.the-variants as condition
-use Rattle.planner.specs.Tests.{tooLong, noPlan}
-use Rattle.planner.specs.Model.{Model, Closed, Opened}
+use Rattle.planner.specs.Tests.{tooLong}
+use Rattle.planner.specs.Model.{Closed}
 use Rattle.planner.specs.Roster.{modelOf, inShape, sound, allZero, wellFormed, conditionOf, inspected}
-use Rattle.planner.specs.Claims.{IsSound}
 use Rattle.planner.proofs.TestRules.{passes-none}
 use Rattle.planner.proofs.Passing.{long-not, passes-plan}
 use Rattle.planner.proofs.Forms.{form-none, form-open, model-none, model-open, shape-machine, shape-places}

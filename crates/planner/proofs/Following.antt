@@ -3,24 +3,21 @@ use Prim.Native.Nat.{ℕ, _≤_, _<_}
 use native.Mathlib.Omega.{arith}
 use mathlib.Core.Path.{_≡_, refl, sym, ap, ap₂, subst, _∙_}
 use mathlib.Core.Logic.{_↔_}
-use mathlib.Core.Bool.{Bool, true, false, false≢true, not}
+use mathlib.Core.Bool.{Bool, true, false, false≢true}
 use mathlib.Core.List.{List, [], _∷_}
 use borrow.Author.Tests.{eq-eqb, lt-leb}
-use lib.Dec.{leb, eqb}
 use lib.ListN.{length}
 use Rattle.gmf.specs.declared.Machine.{Machine}
 use Rattle.gmf.specs.declared.Job.{Job}
 use Rattle.gmf.specs.Jobs.{JobInRange, hyperperiod, hyperperiodLimit, works}
 use Rattle.gmf.specs.Trials.{job}
 use Rattle.gmf.specs.Claims.{Feasible, NonePasses}
-use Rattle.places.specs.Ranges.{jobFits}
 use Rattle.places.specs.Places.{has, insert}
 use Rattle.places.proofs.Results.{placing}
 use Rattle.planner.specs.declared.Roster.{Roster}
-use Rattle.planner.specs.declared.Refusal.{Refusal}
 use Rattle.planner.specs.declared.Refusal.the-variants.{NoPlan}
 use Rattle.planner.specs.declared.Answer.the-variants.{Accepted, Refused}
-use Rattle.planner.specs.Tests.{tooLong, noPlan}
+use Rattle.planner.specs.Tests.{noPlan}
 use Rattle.planner.specs.Model.{
   Model,
   Closed,

@@ -1,11 +1,11 @@
 -- When a roster is well formed, and what it then carries.
-use Prim.Native.Nat.{ℕ, zero, suc, _+_, _-_, _≤_, _<_}
+use Prim.Native.Nat.{ℕ, zero, suc, _-_, _≤_, _<_}
 use native.Mathlib.Decide.{decLt}
 use native.Mathlib.Omega.{arith}
-use mathlib.Core.Path.{_≡_, refl, sym, ap, ap₂, subst, _∙_}
+use mathlib.Core.Path.{_≡_, refl, sym, ap, ap₂, _∙_}
 use mathlib.Core.Logic.{_⊎_, inl, inr}
-use mathlib.Core.Bool.{Bool, true, false, not, _&&_}
-use mathlib.Core.List.{List, [], _∷_, _++_}
+use mathlib.Core.Bool.{Bool, true, not, _&&_}
+use mathlib.Core.List.{List, [], _∷_}
 use borrow.Author.Tests.{leb-true, le-leb, eqb-true, eq-eqb, ne-eqb, not-true}
 use lib.Dec.{leb, eqb}
 use lib.ListN.{length, take, drop, replicate, take-append-drop, length-drop, length-replicate, length-append}
@@ -24,7 +24,8 @@ use Rattle.planner.specs.Model.{Model, Closed, Opened}
 use Rattle.planner.specs.Tests.{speedsFit, isTable, tooLong, noPlan}
 use Rattle.planner.specs.Roster.{emptyRoster, modelOf, rosterOf, inShape, allZero, sound, wellFormed}
 use Rattle.planner.specs.Claims.{Rules, IsSound, FormRule, Forms}
-use Rattle.planner.proofs.TestRules.{both-true, true-both, machine-range, range-processors, range-speeds, is-table, table-is}
+use Rattle.gmf.proofs.Sums.{both-true}
+use Rattle.planner.proofs.TestRules.{machine-range, range-processors, range-speeds, is-table, table-is}
 use Rattle.planner.proofs.Passing.{not-long, long-not, plan-passes, passes-plan}
 
 -- ---- Zeros
@@ -154,14 +155,14 @@ module _ (r : Roster) (entries : length (r .table) ≡ 32) (places : length (r .
   unfolding sound inShape machine
   is-sound s =
       let k = s .rules in
-      true-both _ _
-      (true-both _ _
-      (true-both _ _
-      (true-both _ _
-      (true-both _ _
-      (true-both _ _
-      (true-both _ _
-      (true-both _ _ (range-processors (M .processors) (M .levels) (M .lowest) (M .step) (k .machine-range))
+      ap₂ _&&_
+      (ap₂ _&&_
+      (ap₂ _&&_
+      (ap₂ _&&_
+      (ap₂ _&&_
+      (ap₂ _&&_
+      (ap₂ _&&_
+      (ap₂ _&&_ (range-processors (M .processors) (M .levels) (M .lowest) (M .step) (k .machine-range))
       (range-speeds (M .processors) (M .levels) (M .lowest) (M .step) (k .machine-range)))
       (table-is M numbers (k .table-rules)))
       (ap zeros (s .unused-entries) ∙ is-zeros (32 - M .levels)))

@@ -1,7 +1,7 @@
 -- What a call does to a model, one law for each way out.
 use Prim.Native.Nat.{ℕ, _≤_, _<_}
 use mathlib.Core.Path.{_≡_}
-use mathlib.Core.Bool.{Bool, true, false}
+use mathlib.Core.Bool.{true, false}
 use mathlib.Core.List.{List}
 use borrow.Author.Tests.{le-leb, lt-leb}
 use lib.ListN.{length}
@@ -10,39 +10,9 @@ use Rattle.gmf.specs.declared.Job.{Job}
 use Rattle.gmf.specs.Trials.{machine, job}
 use Rattle.places.specs.Ranges.{oneTo, jobFits}
 use Rattle.places.specs.Places.{has, insert, remove}
-use Rattle.planner.specs.declared.Refusal.the-variants.{
-  Processors,
-  Speeds,
-  PowerTable,
-  JobNumbers,
-  NoMachine,
-  MachineOpen,
-  IdHeld,
-  IdNotHeld,
-  PlacesFull,
-  CycleTooLong,
-  NoPlan,
-}
+use Rattle.planner.specs.declared.Refusal.the-variants.{Processors, Speeds, PowerTable, JobNumbers, IdHeld, IdNotHeld, PlacesFull, CycleTooLong, NoPlan}
 use Rattle.planner.specs.Tests.{speedsFit, isTable, tooLong, noPlan}
-use Rattle.planner.specs.Model.{
-  Model,
-  Closed,
-  Opened,
-  OpenMachine,
-  ReplaceTable,
-  Admit,
-  Retire,
-  refused,
-  accepted,
-  refuseIf,
-  isOpen,
-  onMachine,
-  opened,
-  weighed,
-  admitted,
-  retired,
-  step,
-}
+use Rattle.planner.specs.Model.{Closed, Opened, OpenMachine, ReplaceTable, Admit, Retire, refused, accepted, refuseIf, isOpen, onMachine, opened, weighed, admitted, retired, step}
 
 -- ---- No machine
 

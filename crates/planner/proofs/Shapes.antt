@@ -1,5 +1,5 @@
 -- The tests of a machine and of a roster, as the code makes them one after the other.
-use Prim.Native.Nat.{ℕ, _+_, _-_, _*_, _≤_, _<_}
+use Prim.Native.Nat.{ℕ, _+_, _-_, _*_, _≤_}
 use native.Mathlib.Nat.{mul-le-mul}
 use native.Mathlib.Omega.{arith}
 use mathlib.Core.Path.{_≡_, refl, sym, ap, _∙_}
@@ -8,7 +8,7 @@ use mathlib.Core.Bool.{Bool, true, false, false≢true, _&&_}
 use mathlib.Core.List.{List}
 use borrow.Author.Tests.{eq-eqb, ne-eqb}
 use lib.Dec.{leb}
-use lib.ListN.{length, take, drop}
+use lib.ListN.{take, drop}
 use Rattle.gmf.specs.declared.Machine.{Machine}
 use Rattle.gmf.specs.Power.{IsTable}
 use Rattle.places.specs.Ranges.{oneTo}
@@ -17,7 +17,9 @@ use Rattle.power_tables.specs.Entries.{zeros}
 use Rattle.planner.specs.declared.Roster.{Roster}
 use Rattle.planner.specs.Tests.{speedsFit, isTable}
 use Rattle.planner.specs.Roster.{inShape, allZero}
-use Rattle.planner.proofs.TestRules.{both-true, one-to, is-table, table-is}
+use Rattle.gmf.proofs.Sums.{both-true}
+use Rattle.places.proofs.Results.{placing}
+use Rattle.planner.proofs.TestRules.{is-table, table-is}
 
 -- ---- Speeds
 
@@ -44,15 +46,15 @@ module _ (L b d : ℕ) where
         -- The product and the sum are small.
         pub speeds-small : (1 ≤ L) × ((L - 1) * d ≤ 7905) × (b ≤ 256)
         speeds-small =
-            let l = one-to 32 L e in
+            let l = placing .tests .number 32 L .0 e in
             let low : L - 1 ≤ 31 = omega (arith, l) in
-            (l .0, omega (arith, mul-le-mul low (one-to 255 d g .1)), one-to 256 b f .1)
+            (l .0, omega (arith, mul-le-mul low (placing .tests .number 255 d .0 g .1)), placing .tests .number 256 b .0 f .1)
 
 -- Speeds that fit have at most 32 levels.
 pub speeds-levels : (L b d : ℕ) → speedsFit L b d ≡ true → L ≤ 32
 unfolding speedsFit
 speeds-levels L b d e =
-    one-to 32 L (both-true _ (oneTo 256 b) (both-true _ (oneTo 255 d) (both-true _ (leb (b + (L - 1) * d) 256) e .0) .0) .0) .1
+    placing .tests .number 32 L .0 (both-true _ (oneTo 256 b) (both-true _ (oneTo 255 d) (both-true _ (leb (b + (L - 1) * d) 256) e .0) .0) .0) .1
 
 -- ---- A table that the code accepts
 

@@ -2,8 +2,8 @@
 use Prim.Native.Nat.{ℕ, _≤_, _<_}
 use native.Mathlib.Nat.{le-trans}
 use native.Mathlib.Omega.{arith}
-use mathlib.Core.Path.{_≡_, refl, sym, subst, ap, _∙_}
-use mathlib.Core.Bool.{Bool, true, false, not}
+use mathlib.Core.Path.{_≡_, refl, subst}
+use mathlib.Core.Bool.{Bool, true, false}
 use mathlib.Core.List.{List, [], _∷_, _++_}
 use borrow.Author.Tests.{leb-false, not-false}
 use lib.Dec.{eqb}
@@ -12,37 +12,15 @@ use Rattle.gmf.specs.declared.Machine.{Machine}
 use Rattle.gmf.specs.declared.Job.{Job}
 use Rattle.gmf.specs.Machine.{InRange, speed, top}
 use Rattle.gmf.specs.Jobs.{JobInRange, Every, hyperperiod, works}
-use Rattle.gmf.specs.Power.{defaultTable}
 use Rattle.gmf.specs.Trials.{machine, job}
 use Rattle.gmf.specs.Claims.{Feasible}
 use Rattle.gmf.proofs.Hyperperiod.{in-range-positive}
 use Rattle.gmf.proofs.Results.{method}
-use Rattle.places.specs.Ranges.{oneTo, jobFits}
 use Rattle.places.specs.Places.{listed, has, insert, remove}
 use Rattle.places.proofs.Results.{placing}
 use Rattle.planner.specs.declared.Refusal.{Refusal}
 use Rattle.planner.specs.Tests.{isTable, tooLong, noPlan}
-use Rattle.planner.specs.Model.{
-  Model,
-  Closed,
-  Opened,
-  Call,
-  OpenMachine,
-  ReplaceTable,
-  Admit,
-  Retire,
-  Outcome,
-  refused,
-  accepted,
-  refuseIf,
-  isOpen,
-  onMachine,
-  opened,
-  weighed,
-  admitted,
-  retired,
-  step,
-}
+use Rattle.planner.specs.Model.{Model, Closed, Opened, Call, OpenMachine, ReplaceTable, Admit, Retire, Outcome, refused, accepted, refuseIf, onMachine, opened, weighed, admitted, retired, step}
 use Rattle.planner.specs.Calls.{refusalNumber, after}
 use Rattle.planner.specs.Claims.{Rules}
 use Rattle.planner.proofs.TestRules.{machine-range, is-table}

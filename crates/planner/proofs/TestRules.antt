@@ -1,9 +1,8 @@
 -- The tests say what 01 says.
-use Prim.Native.Nat.{ℕ, zero, suc, _-_, _≤_, _<_}
+use Prim.Native.Nat.{ℕ, zero, suc, _-_, _<_}
 use native.Mathlib.Omega.{arith}
 use native.Mathlib.Nat.{not-suc-le-zero}
-use mathlib.Core.Path.{_≡_, refl, sym, ap, ap₂, _∙_}
-use mathlib.Core.Logic.{_↔_}
+use mathlib.Core.Path.{_≡_, refl, ap, ap₂}
 use mathlib.Core.Bool.{Bool, true, false, false≢true, _&&_}
 use mathlib.Core.List.{List}
 use borrow.Author.Tests.{leb-true, le-leb, eqb-true, eq-eqb, ltb-true, lt-ltb}
@@ -15,33 +14,15 @@ use Rattle.gmf.specs.Machine.{InRange, speed, top}
 use Rattle.gmf.specs.Jobs.{hyperperiod, hyperperiodLimit, works}
 use Rattle.gmf.specs.Growing.{Growth, Grown, planOf}
 use Rattle.gmf.specs.Growing as gmf
-use Rattle.gmf.specs.Power.{power, rise, Convex, powerLimit, IsTable}
+use Rattle.gmf.specs.Power.{power, rise, powerLimit, IsTable}
 use Rattle.gmf.specs.Trials.{machine}
 use Rattle.gmf.specs.Claims.{NonePasses}
-use Rattle.gmf.proofs.Sums.{below-suc}
+use Rattle.gmf.proofs.Sums.{both-true, below-suc}
 use Rattle.gmf.proofs.Results.{plans-jobs}
 use Rattle.places.specs.Ranges.{oneTo}
+use Rattle.places.proofs.Results.{placing}
 use Rattle.planner.specs.Tests.{speedsFit, allBelow, isTable, tooLong, foundNone, noPlan}
 use Rattle.planner.specs.Claims.{TestRule}
-
--- ---- Both of two
-
-pub both-true : (a b : Bool) → (a && b) ≡ true → (a ≡ true) × (b ≡ true)
-both-true true b e = (refl, e)
-both-true false b e = absurd (false≢true e)
-
-pub true-both : (a b : Bool) → a ≡ true → b ≡ true → (a && b) ≡ true
-true-both a b e f = ap₂ _&&_ e f
-
--- ---- One number
-
-pub one-to : (n x : ℕ) → oneTo n x ≡ true → (1 ≤ x) × (x ≤ n)
-unfolding oneTo
-one-to n x e = let b = both-true (leb 1 x) (leb x n) e in (leb-true 1 x (b .0), leb-true x n (b .1))
-
-to-one : (n x : ℕ) → (1 ≤ x) × (x ≤ n) → oneTo n x ≡ true
-unfolding oneTo
-to-one n x h = true-both (leb 1 x) (leb x n) (le-leb 1 x (h .0)) (le-leb x n (h .1))
 
 -- ---- A machine
 
@@ -53,22 +34,22 @@ module _ (m L b d : ℕ) where
       let y = both-true (oneTo 32 L && oneTo 256 b) (oneTo 255 d) (z .0) in
       let x = both-true (oneTo 32 L) (oneTo 256 b) (y .0) in
       record {
-        processors = one-to 32 m h;
-        levels = one-to 32 L (x .0);
-        lowest = one-to 256 b (x .1);
-        step = one-to 255 d (y .1);
+        processors = placing .tests .number 32 m .0 h;
+        levels = placing .tests .number 32 L .0 (x .0);
+        lowest = placing .tests .number 256 b .0 (x .1);
+        step = placing .tests .number 255 d .0 (y .1);
         top-speed = leb-true _ _ (z .1);
       }
 
   pub range-processors : InRange (machine m L b d) → oneTo 32 m ≡ true
   unfolding machine
-  range-processors r = to-one 32 m (r .processors)
+  range-processors r = placing .tests .number 32 m .1 (r .processors)
 
   pub range-speeds : InRange (machine m L b d) → speedsFit L b d ≡ true
   unfolding speedsFit machine speed top
   range-speeds r =
-      true-both _ _
-      (true-both _ _ (true-both _ _ (to-one 32 L (r .levels)) (to-one 256 b (r .lowest))) (to-one 255 d (r .step)))
+      ap₂ _&&_
+      (ap₂ _&&_ (ap₂ _&&_ (placing .tests .number 32 L .1 (r .levels)) (placing .tests .number 256 b .1 (r .lowest))) (placing .tests .number 255 d .1 (r .step)))
       (le-leb _ 256 (r .top-speed))
 
 -- ---- A table
@@ -83,7 +64,7 @@ below-all (suc n) test e j h =
 all-below : (n : ℕ) (test : ℕ → Bool) → ((j : ℕ) → j < n → test j ≡ true) → allBelow n test ≡ true
 unfolding allBelow
 all-below zero test h = refl
-all-below (suc n) test h = true-both (allBelow n test) (test n) (all-below n test (λ j k. h j (omega arith))) (h n (omega arith))
+all-below (suc n) test h = ap₂ _&&_ (all-below n test (λ j k. h j (omega arith))) (h n (omega arith))
 
 module _ (M : Machine) (table : List ℕ) where
   pub is-table : isTable M table ≡ true → IsTable M table
@@ -106,9 +87,9 @@ module _ (M : Machine) (table : List ℕ) where
   pub table-is : IsTable M table → isTable M table ≡ true
   unfolding isTable
   table-is t =
-      true-both _ _
-      (true-both _ _
-      (true-both _ _ (eq-eqb _ _ (t .size)) (all-below (M .levels) _ (λ j h. le-leb _ _ (t .range j h))))
+      ap₂ _&&_
+      (ap₂ _&&_
+      (ap₂ _&&_ (eq-eqb _ _ (t .size)) (all-below (M .levels) _ (λ j h. le-leb _ _ (t .range j h))))
       (all-below (M .levels - 1) _ (λ j h. le-leb _ _ (t .convex .never-falls j (omega (arith, t .size))))))
       (all-below (M .levels - 1) _ (λ j h. le-leb _ _ (t .convex .rises-never-shrink j (omega (arith, t .size)))))
 
@@ -133,7 +114,7 @@ unfolding tooLong
 test-rule = record {
   machines = λ m L b d. (
     (λ e. let h = both-true (oneTo 32 m) (speedsFit L b d) e in machine-range m L b d (h .0) (h .1)),
-    λ r. true-both _ _ (range-processors m L b d r) (range-speeds m L b d r),
+    λ r. ap₂ _&&_ (range-processors m L b d r) (range-speeds m L b d r),
   );
   tables = λ M table. (is-table M table, table-is M table);
   cycles = λ jobs. (ltb-true hyperperiodLimit (hyperperiod jobs), lt-ltb hyperperiodLimit (hyperperiod jobs));

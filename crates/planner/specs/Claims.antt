@@ -32,7 +32,7 @@ use Rattle.planner.specs.declared.Refusal.the-variants.{
 }
 use Rattle.planner.specs.declared.Answer.the-variants.{Accepted, Refused}
 use Rattle.planner.specs.Tests.{speedsFit, isTable, tooLong, noPlan}
-use Rattle.planner.specs.Model.{Model, Closed, Opened, Call, OpenMachine, ReplaceTable, Admit, Retire, step}
+use Rattle.planner.specs.Model.{Closed, Opened, Call, OpenMachine, ReplaceTable, Admit, Retire, step}
 use Rattle.planner.specs.Roster.{emptyRoster, modelOf, rosterOf, wellFormed, replyTo}
 use Rattle.planner.specs.Calls.{numberOf, outcomeNumber, modelNumbers, modelAfter, replyNumbers, rosterAfter}
 

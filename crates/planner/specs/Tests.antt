@@ -2,7 +2,7 @@
 -- (Claims).
 use Prim.Native.Nat.{ℕ, zero, suc, _-_, _+_, _*_}
 use mathlib.Core.Bool.{Bool, true, false, _&&_}
-use mathlib.Core.List.{List, [], _∷_}
+use mathlib.Core.List.{List}
 use lib.Dec.{leb, ltb, eqb}
 use lib.ListN.{length}
 use Rattle.gmf.specs.declared.Machine.{Machine}

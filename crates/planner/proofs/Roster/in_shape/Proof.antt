@@ -2,12 +2,11 @@
 use Prim.Native.Nat.{_-_, _≤_}
 use native.Mathlib.Omega.{arith}
 use mathlib.Core.Path.{_≡_, refl, sym, ap, _∙_}
-use mathlib.Core.Bool.{true, false}
+use mathlib.Core.Bool.{true}
 use borrow.Author.Needs.{needs}
 use borrow.Author.Tests.{not-true, not-false}
 use lib.ListN.{length, take, drop, length-drop}
 use lib.Seq.{length-take-le, take-all}
-use Rattle.gmf.specs.declared.Machine.{Machine}
 use Rattle.places.specs.Ranges.{oneTo}
 use Rattle.planner.specs.Tests.{speedsFit, isTable}
 use Rattle.power_tables.specs.Entries.{zeros}

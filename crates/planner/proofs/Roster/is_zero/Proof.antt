@@ -1,6 +1,5 @@
 -- `planner::Roster::is_zero` meets its contract.
-use mathlib.Core.Path.{_≡_, sym, _∙_}
-use mathlib.Core.Bool.{true}
+use mathlib.Core.Path.{sym, _∙_}
 use borrow.Author.Needs.{needs}
 use borrow.Author.Tests.{not-true, not-false}
 use Rattle.planner.proofs.Shapes.{zero-1, zero-2, zero-3, zero-4, zero-5, zero-6}
