@@ -1,0 +1,45 @@
+// Makes calls on rosters, good and damaged, and prints what comes of each. A line has the call and the number of its answer: 0, or that of
+// the refusal. Where the roster that comes back is not the one handed in, the line says `changed`.
+// The file `stdout` has what must be printed. It is worked out from 01 by hand: the reason of each result stands at its trial.
+mod by_hand;
+mod calls;
+mod compare;
+mod cycles;
+mod damaged;
+mod full;
+mod held;
+mod list;
+mod order;
+mod print;
+mod ranges;
+mod tables;
+
+fn main() {
+    compare::differences();
+    cycles::cycles();
+    cycles::limits();
+    tables::default_tables();
+    tables::rules();
+    tables::lengths();
+    tables::values();
+    held::places();
+    held::ids();
+    ranges::machines();
+    ranges::top_speeds();
+    ranges::wide_machines();
+    ranges::jobs();
+    ranges::retired();
+    full::one_processor();
+    full::more_processors();
+    order::refusals();
+    order::neighbours();
+    order::admissions();
+    by_hand::calls();
+    damaged::good();
+    damaged::machines();
+    damaged::tables();
+    damaged::counts();
+    damaged::held_jobs();
+    damaged::closed();
+    list::calls();
+}
