@@ -3,7 +3,7 @@ use Prim.Native.Nat.{ℕ}
 use mathlib.Core.Bool.{Bool, _&&_}
 use lib.Dec.{leb}
 
--- "… 1 to n …".
+-- A number is 1 to n.
 unfoldable pub oneTo : ℕ → ℕ → Bool
 oneTo n x = leb 1 x && leb x n
 

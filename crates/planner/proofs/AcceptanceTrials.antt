@@ -26,9 +26,12 @@ call-trials = record {
   none-open = refl;
   one-open = refl;
   tables = refl;
-  house-table = refl;
+  table-left = refl;
+  default-table = refl;
   all-held = refl;
   left = refl;
+  damaged = refl;
+  damaged-left = refl;
 }
 
 pub form-trials : FormTrials

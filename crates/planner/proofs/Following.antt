@@ -1,22 +1,20 @@
 -- Every list of calls from the empty roster follows the model: one induction over the list.
-use Prim.Native.Nat.{ℕ, _≤_, _<_}
+use Prim.Native.Nat.{ℕ, _≤_}
 use native.Mathlib.Omega.{arith}
 use mathlib.Core.Path.{_≡_, refl, sym, ap, ap₂, subst, _∙_}
-use mathlib.Core.Logic.{_↔_}
 use mathlib.Core.Bool.{Bool, true, false, false≢true}
 use mathlib.Core.List.{List, [], _∷_}
 use borrow.Author.Tests.{eq-eqb, lt-leb}
 use lib.ListN.{length}
 use Rattle.gmf.specs.declared.Machine.{Machine}
 use Rattle.gmf.specs.declared.Job.{Job}
-use Rattle.gmf.specs.Jobs.{JobInRange, hyperperiod, hyperperiodLimit, works}
+use Rattle.gmf.specs.Jobs.{hyperperiod, works}
 use Rattle.gmf.specs.Trials.{job}
 use Rattle.gmf.specs.Claims.{Feasible, NonePasses}
-use Rattle.places.specs.Places.{has, insert}
+use Rattle.places.specs.Places.{insert}
 use Rattle.places.proofs.Results.{placing}
 use Rattle.planner.specs.declared.Roster.{Roster}
 use Rattle.planner.specs.declared.Refusal.the-variants.{NoPlan}
-use Rattle.planner.specs.declared.Answer.the-variants.{Accepted, Refused}
 use Rattle.planner.specs.Tests.{noPlan}
 use Rattle.planner.specs.Model.{
   Model,
@@ -35,10 +33,10 @@ use Rattle.planner.specs.Model.{
 }
 use Rattle.planner.specs.Roster.{emptyRoster, modelOf, rosterOf, wellFormed, replied, replyTo}
 use Rattle.planner.specs.Calls.{refusalNumber, numberOf, outcomeNumber, after, modelNumbers, modelAfter, replyNumbers, rosterAfter}
-use Rattle.planner.specs.Claims.{Rules, TurnedDown, Follows}
+use Rattle.planner.specs.Claims.{Rules, Offered, answerTo, TurnedDown, Follows}
 use Rattle.planner.proofs.TestRules.{none-passes, passes-none}
 use Rattle.planner.proofs.Passing.{long-not, plan-passes, passes-plan}
-use Rattle.planner.proofs.Forms.{Kept, kept-form, kept-model}
+use Rattle.planner.proofs.Forms.{closed-roster, Kept, kept-form, kept-model}
 use Rattle.planner.proofs.Replies.{reply-well}
 use Rattle.planner.proofs.Steps.{Fair, stays, turns, fair-after, fair-step}
 
@@ -101,74 +99,77 @@ never (accepted model) (turns kept) e = omega arith
 
 -- ---- A job that only 17 could refuse
 
-module _ (M : Machine) (table : List ℕ) (jobs : List Job) (rules : Rules M table jobs) (few : length jobs ≤ 64) (new : Job)
-    (in-range : JobInRange new) (fresh : has (new .id) jobs ≡ false) (free : length jobs < 64)
-    (short : hyperperiod (insert new jobs) ≤ hyperperiodLimit) where
-  abbrev offered : Call
-  offered = Admit (new .id) (new .cost) (new .period)
+module _ (M : Machine) (table : List ℕ) (jobs : List Job) (rules : Rules M table jobs) (few : length jobs ≤ 64) (new : Job) (offered : Offered jobs new) where
+  abbrev call : Call
+  call = Admit (new .id) (new .cost) (new .period)
 
   abbrev more : List Job
   more = insert new jobs
 
-  abbrev weighing : Bool → Outcome
-  weighing b = refuseIf b NoPlan (accepted (Opened M table more))
-
-  only-17 : step (Opened M table jobs) offered ≡ weighing (noPlan M more)
-  unfolding step onMachine admitted weighed refuseIf
-  only-17 =
-      rw (
-        placing .tests .one-job (new .id) (new .cost) (new .period) .1 in-range,
-        fresh,
-        lt-leb 64 (length jobs) free,
-        long-not more short,
-      )
-
-  answered : replyTo (rosterOf (Opened M table jobs)) offered ≡ replied (rosterOf (Opened M table jobs)) (weighing (noPlan M more))
-  answered = reply-kept (Opened M table jobs) offered (rules, few) ∙ ap (replied (rosterOf (Opened M table jobs))) only-17
-
-  -- The answer by the test.
-  by-true : (r : Roster) (b : Bool) → replied r (weighing b) .answer ≡ Refused NoPlan → b ≡ true
-  unfolding replied refuseIf numberOf refusalNumber
-  by-true r true e = refl
-  by-true r false e = let z : _≡_ {A = ℕ} 0 17 = ap numberOf e in absurd (omega arith)
-
-  by-false : (r : Roster) (b : Bool) → replied r (weighing b) .answer ≡ Accepted → b ≡ false
-  unfolding replied refuseIf numberOf refusalNumber
-  by-false r true e = let z : _≡_ {A = ℕ} 17 0 = ap numberOf e in absurd (omega arith)
-  by-false r false e = refl
-
-  true-by : (r : Roster) (b : Bool) → b ≡ true → replied r (weighing b) .answer ≡ Refused NoPlan
-  unfolding replied refuseIf
-  true-by r b e = rw e
-
-  false-by : (r : Roster) (b : Bool) → b ≡ false → replied r (weighing b) .answer ≡ Accepted
-  unfolding replied refuseIf
-  false-by r b e = rw e
-
   abbrev roster : Roster
   roster = rosterOf (Opened M table jobs)
 
-  by-17 : (replyTo roster offered .answer ≡ Refused NoPlan) ↔ NonePasses M (hyperperiod more) (works more)
-  by-17 = (
-    (λ e. none-passes M (rules .machine-range) more (by-true roster (noPlan M more) (sym (ap (λ r. r .answer) answered) ∙ e))),
-    λ none. ap (λ r. r .answer) answered ∙ true-by roster (noPlan M more) (passes-none M (rules .machine-range) more none),
-  )
+  abbrev weighing : Bool → Outcome
+  weighing b = refuseIf b NoPlan (accepted (Opened M table more))
 
-  or-accepted : (replyTo roster offered .answer ≡ Accepted) ↔ Feasible M more
-  or-accepted = (
-    (λ e. plan-passes M (rules .machine-range) more (by-false roster (noPlan M more) (sym (ap (λ r. r .answer) answered) ∙ e))),
-    λ some. ap (λ r. r .answer) answered ∙ false-by roster (noPlan M more) (passes-plan M (rules .machine-range) more some),
-  )
+  only-17 : step (Opened M table jobs) call ≡ weighing (noPlan M more)
+  unfolding step onMachine admitted weighed refuseIf
+  only-17 =
+      rw (
+        placing .tests .one-job (new .id) (new .cost) (new .period) .1 (offered .in-range),
+        offered .new-id,
+        lt-leb 64 (length jobs) (offered .place-free),
+        long-not more (offered .within-limit),
+      )
 
-turned-down : (M : Machine) (table : List ℕ) (jobs : List Job) → Rules M table jobs → length jobs ≤ 64 → TurnedDown (rosterOf (Opened M table jobs)) M jobs
-turned-down M table jobs rules few =
-    record { by-17 = by-17 M table jobs rules few; or-accepted = or-accepted M table jobs rules few }
+  -- The number by the test.
+  weight : Bool → ℕ
+  weight true = 17
+  weight false = 0
+
+  weighed-as : (b : Bool) → outcomeNumber (weighing b) ≡ weight b
+  unfolding outcomeNumber refuseIf refusalNumber weight
+  weighed-as true = refl
+  weighed-as false = refl
+
+  answered : answerTo roster new ≡ weight (noPlan M more)
+  unfolding answerTo
+  answered = reply-number (Opened M table jobs) call (rules, few) ∙ ap outcomeNumber only-17 ∙ weighed-as (noPlan M more)
+
+  is-17 : (b : Bool) → weight b ≡ 17 → b ≡ true
+  unfolding weight
+  is-17 true e = refl
+  is-17 false e = absurd (omega arith)
+
+  is-0 : (b : Bool) → weight b ≡ 0 → b ≡ false
+  unfolding weight
+  is-0 true e = absurd (omega arith)
+  is-0 false e = refl
+
+  is-not-0 : (b : Bool) → (weight b ≡ 0 → ⊥) → b ≡ true
+  unfolding weight
+  is-not-0 true n = refl
+  is-not-0 false n = absurd (n refl)
+
+  number-17 : NonePasses M (hyperperiod more) (works more) → answerTo roster new ≡ 17
+  unfolding weight
+  number-17 none = answered ∙ ap weight (passes-none M (rules .machine-range) more none)
+
+  number-0 : Feasible M more → answerTo roster new ≡ 0
+  unfolding weight
+  number-0 some = answered ∙ ap weight (passes-plan M (rules .machine-range) more some)
+
+  pub turned-down : TurnedDown roster M jobs new
+  turned-down = record {
+    turned-down = (
+      (λ n. none-passes M (rules .machine-range) more (is-not-0 (noPlan M more) (λ e. n (answered ∙ e)))),
+      λ none e. omega (arith, number-17 none),
+    );
+    by-17 = ((λ e. none-passes M (rules .machine-range) more (is-17 (noPlan M more) (sym answered ∙ e))), number-17);
+    or-accepted = ((λ e. plan-passes M (rules .machine-range) more (is-0 (noPlan M more) (sym answered ∙ e))), number-0);
+  }
 
 -- ---- All of it
-
-closed-roster : rosterOf Closed ≡ emptyRoster
-unfolding rosterOf
-closed-roster = refl
 
 module _ (calls : List Call) where
   abbrev end : Model
@@ -180,11 +181,13 @@ module _ (calls : List Call) where
   ends : rosterAfter emptyRoster calls ≡ rosterOf end
   ends = ap (λ r. rosterAfter r calls) (sym closed-roster) ∙ roster-follows Closed calls tt
 
-  open-end : (M : Machine) (table : List ℕ) (jobs : List Job) → end ≡ Opened M table jobs
-      → Rules M table jobs × (length jobs ≤ 64) × TurnedDown (rosterAfter emptyRoster calls) M jobs
-  open-end M table jobs e =
-      let kept : Kept (Opened M table jobs) = subst Kept e end-kept in
-      (kept .0, kept .1, subst (λ r. TurnedDown r M jobs) (sym (ends ∙ ap rosterOf e)) (turned-down M table jobs (kept .0) (kept .1)))
+  module _ (M : Machine) (table : List ℕ) (jobs : List Job) (e : end ≡ Opened M table jobs) where
+    open-end : Kept (Opened M table jobs)
+    open-end = subst Kept e end-kept
+
+    open-turned-down : (new : Job) → Offered jobs new → TurnedDown (rosterAfter emptyRoster calls) M jobs new
+    open-turned-down new offered =
+        subst (λ r. TurnedDown r M jobs new) (sym (ends ∙ ap rosterOf e)) (turned-down M table jobs (open-end .0) (open-end .1) new offered)
 
   pub follows : Follows calls
   follows = record {
@@ -194,5 +197,7 @@ module _ (calls : List Call) where
     never-7 = λ call e.
         never (step end call) (fair-step end call end-kept) (sym (reply-number end call end-kept) ∙ ap (λ r. numberOf (replyTo r call .answer)) (sym ends) ∙ e);
     model = ap modelOf ends ∙ kept-model end end-kept;
-    rules = open-end;
+    rules = λ M table jobs e. open-end M table jobs e .0;
+    at-most-64 = λ M table jobs e. open-end M table jobs e .1;
+    turned-down = open-turned-down;
   }

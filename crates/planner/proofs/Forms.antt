@@ -1,24 +1,26 @@
 -- When a roster is well formed, and what it then carries.
-use Prim.Native.Nat.{ℕ, zero, suc, _-_, _≤_, _<_}
+use Prim.Native.Nat.{ℕ, _-_, _≤_, _<_}
 use native.Mathlib.Decide.{decLt}
 use native.Mathlib.Omega.{arith}
 use mathlib.Core.Path.{_≡_, refl, sym, ap, ap₂, _∙_}
 use mathlib.Core.Logic.{_⊎_, inl, inr}
-use mathlib.Core.Bool.{Bool, true, not, _&&_}
-use mathlib.Core.List.{List, [], _∷_}
-use borrow.Author.Tests.{leb-true, le-leb, eqb-true, eq-eqb, ne-eqb, not-true}
+use mathlib.Core.Bool.{Bool, true, false, not, _&&_, or-false}
+use mathlib.Core.List.{List}
+use borrow.Author.Tests.{leb-true, le-leb, lt-leb, eqb-true, eq-eqb, ne-eqb, not-true}
 use lib.Dec.{leb, eqb}
 use lib.ListN.{length, take, drop, replicate, take-append-drop, length-drop, length-replicate, length-append}
 use lib.Seq.{length-take-le, take-append-seam, drop-append-seam}
 use Rattle.gmf.specs.declared.Machine.{Machine}
 use Rattle.gmf.specs.declared.Job.{Job}
 use Rattle.gmf.specs.Machine.{InRange}
-use Rattle.gmf.specs.Jobs.{JobInRange, Every}
+use Rattle.gmf.specs.Jobs.{JobInRange, ByRisingId, Every}
+use Rattle.gmf.specs.Power.{IsTable}
 use Rattle.gmf.specs.Trials.{machine}
 use Rattle.places.specs.Ranges.{oneTo}
 use Rattle.places.specs.Places.{noJob, placesOf, unused, listed}
 use Rattle.places.proofs.Results.{placing}
 use Rattle.power_tables.specs.Entries.{entriesOf, zeros}
+use Rattle.power_tables.proofs.Entries.{zeros-is, is-zeros}
 use Rattle.planner.specs.declared.Roster.{Roster}
 use Rattle.planner.specs.Model.{Model, Closed, Opened}
 use Rattle.planner.specs.Tests.{speedsFit, isTable, tooLong, noPlan}
@@ -28,30 +30,30 @@ use Rattle.gmf.proofs.Sums.{both-true}
 use Rattle.planner.proofs.TestRules.{machine-range, range-processors, range-speeds, is-table, table-is}
 use Rattle.planner.proofs.Passing.{not-long, long-not, plan-passes, passes-plan}
 
--- ---- Zeros
-
-zeros-is : (l : List ℕ) → zeros l ≡ true → l ≡ replicate (length l) 0
-unfolding zeros
-zeros-is [] e = refl
-zeros-is (x ∷ xs) e = let b = both-true (eqb x 0) (zeros xs) e in ap₂ _∷_ (eqb-true x 0 (b .0)) (zeros-is xs (b .1))
-
-is-zeros : (n : ℕ) → zeros (replicate n 0) ≡ true
-unfolding zeros
-is-zeros zero = refl
-is-zeros (suc n) = is-zeros n
+-- ---- Unused places
 
 unused-is : (n : ℕ) → unused (replicate n noJob) ≡ true
 unused-is n = placing .tests .places (replicate n noJob) .1 (ap (λ (k : ℕ). replicate k noJob) (sym (length-replicate n noJob)))
 
+-- ---- Jobs that keep the rules
+
+pub rules-listed : (M : Machine) (table : List ℕ) (jobs : List Job) → Rules M table jobs → listed jobs ≡ true
+rules-listed M table jobs rules = placing .tests .jobs jobs .1 (rules .job-ranges, rules .by-id)
+
 -- ---- With a machine and without
+
+-- With no processor a roster is not in shape, and with one it is not all zeros.
+no-shape : (r : Roster) → r .machine .processors ≡ 0 → sound r ≡ false
+unfolding sound inShape oneTo
+no-shape r e = rw (lt-leb 1 (r .machine .processors) (omega arith))
 
 pub form-none : (r : Roster) → r .machine .processors ≡ 0 → wellFormed r ≡ allZero r
 unfolding wellFormed
-form-none r e = rw (eq-eqb (r .machine .processors) 0 e, wellFormed)
+form-none r e = rw (no-shape r e) (or-false (allZero r))
 
 pub form-open : (r : Roster) → (r .machine .processors ≡ 0 → ⊥) → wellFormed r ≡ sound r
-unfolding wellFormed
-form-open r n = rw (ne-eqb (r .machine .processors) 0 n, wellFormed)
+unfolding wellFormed allZero
+form-open r n = rw (ne-eqb (r .machine .processors) 0 n)
 
 pub model-none : (r : Roster) → r .machine .processors ≡ 0 → modelOf r ≡ Closed
 unfolding modelOf
@@ -64,7 +66,7 @@ model-open r n = rw (ne-eqb (r .machine .processors) 0 n, modelOf)
 
 -- ---- The empty roster
 
-same-roster : (m L b d m′ L′ b′ d′ h h′ : ℕ) (t t′ : List ℕ) (js js′ : List Job)
+pub same-roster : (m L b d m′ L′ b′ d′ h h′ : ℕ) (t t′ : List ℕ) (js js′ : List Job)
     → m ≡ m′ → L ≡ L′ → b ≡ b′ → d ≡ d′ → t ≡ t′ → h ≡ h′ → js ≡ js′
     → _≡_ {A = Roster} (record { machine = record { processors = m; levels = L; lowest = b; step = d }; table = t; held = h; jobs = js })
     (record { machine = record { processors = m′; levels = L′; lowest = b′; step = d′ }; table = t′; held = h′; jobs = js′ })
@@ -74,20 +76,31 @@ pub empty-form : wellFormed emptyRoster ≡ true
 unfolding wellFormed allZero emptyRoster machine zeros unused
 empty-form = refl
 
-closed-roster : rosterOf Closed ≡ emptyRoster
+pub closed-roster : rosterOf Closed ≡ emptyRoster
 unfolding rosterOf
 closed-roster = refl
 
+pub zero-none : (r : Roster) → allZero r ≡ true → r .machine .processors ≡ 0
+unfolding allZero
+zero-none r e =
+    let z = both-true _ (unused (r .jobs)) e in
+    let y = both-true _ (zeros (r .table)) (z .0) in
+    let x = both-true _ (eqb (r .held) 0) (y .0) in
+    let w = both-true _ (eqb (r .machine .step) 0) (x .0) in
+    let v = both-true _ (eqb (r .machine .lowest) 0) (w .0) in
+    eqb-true _ 0 (both-true (eqb (r .machine .processors) 0) (eqb (r .machine .levels) 0) (v .0) .0)
+
 module _ (r : Roster) (entries : length (r .table) ≡ 32) (places : length (r .jobs) ≡ 64) where
-  zero-empty : r .machine .processors ≡ 0 → allZero r ≡ true → r ≡ emptyRoster
+  zero-empty : allZero r ≡ true → r ≡ emptyRoster
   unfolding allZero emptyRoster machine
-  zero-empty none e =
+  zero-empty e =
       let z = both-true _ (unused (r .jobs)) e in
       let y = both-true _ (zeros (r .table)) (z .0) in
       let x = both-true _ (eqb (r .held) 0) (y .0) in
       let w = both-true _ (eqb (r .machine .step) 0) (x .0) in
-      let v = both-true (eqb (r .machine .levels) 0) (eqb (r .machine .lowest) 0) (w .0) in
-      same-roster _ _ _ _ 0 0 0 0 _ 0 _ _ _ _ none (eqb-true _ 0 (v .0)) (eqb-true _ 0 (v .1)) (eqb-true _ 0 (w .1))
+      let v = both-true _ (eqb (r .machine .lowest) 0) (w .0) in
+      let u = both-true (eqb (r .machine .processors) 0) (eqb (r .machine .levels) 0) (v .0) in
+      same-roster _ _ _ _ 0 0 0 0 _ 0 _ _ _ _ (eqb-true _ 0 (u .0)) (eqb-true _ 0 (u .1)) (eqb-true _ 0 (v .1)) (eqb-true _ 0 (w .1))
       (zeros-is (r .table) (y .1) ∙ ap (λ (n : ℕ). replicate {A = ℕ} n 0) entries) (eqb-true _ 0 (x .1))
       (placing .tests .places (r .jobs) .0 (z .1) ∙ ap (λ (n : ℕ). replicate n noJob) places)
 
@@ -105,49 +118,54 @@ module _ (r : Roster) (entries : length (r .table) ≡ 32) (places : length (r .
   abbrev ranged : Bool
   ranged = oneTo 32 (M .processors) && speedsFit (M .levels) (M .lowest) (M .step)
 
-  pub shape-places : inShape r ≡ true → (r .held ≤ 64) × Every JobInRange held-jobs
-  unfolding inShape
-  shape-places e =
-      let z = both-true _ (unused (drop (r .held) (r .jobs))) e in
-      let y = both-true _ (listed held-jobs) (z .0) in
-      let x = both-true (ranged && isTable M numbers && zeros (drop (M .levels) (r .table))) (leb (r .held) 64) (y .0) in
-      (leb-true (r .held) 64 (x .1), placing .tests .jobs held-jobs .0 (y .1) .0)
+  pub record Shape : Type 0 where
+    pub machine-range : InRange M
+    pub table-rules : IsTable M numbers
+    pub entries-after : zeros (drop (M .levels) (r .table)) ≡ true
+    pub few : r .held ≤ 64
+    pub job-ranges : Every JobInRange held-jobs
+    pub by-id : ByRisingId held-jobs
+    pub places-after : unused (drop (r .held) (r .jobs)) ≡ true
 
-  pub shape-machine : inShape r ≡ true → InRange M
+  pub shape-of : inShape r ≡ true → Shape
   unfolding inShape machine
-  shape-machine e =
+  shape-of e =
       let z = both-true _ (unused (drop (r .held) (r .jobs))) e in
       let y = both-true _ (listed held-jobs) (z .0) in
       let x = both-true (ranged && isTable M numbers && zeros (drop (M .levels) (r .table))) (leb (r .held) 64) (y .0) in
       let w = both-true (ranged && isTable M numbers) (zeros (drop (M .levels) (r .table))) (x .0) in
       let v = both-true ranged (isTable M numbers) (w .0) in
       let u = both-true (oneTo 32 (M .processors)) (speedsFit (M .levels) (M .lowest) (M .step)) (v .0) in
-      machine-range (M .processors) (M .levels) (M .lowest) (M .step) (u .0) (u .1)
+      let by = placing .tests .jobs held-jobs .0 (y .1) in
+      record {
+        machine-range = machine-range (M .processors) (M .levels) (M .lowest) (M .step) (u .0) (u .1);
+        table-rules = is-table M numbers (v .1);
+        entries-after = w .1;
+        few = leb-true (r .held) 64 (x .1);
+        job-ranges = by .0;
+        by-id = by .1;
+        places-after = z .1;
+      }
 
   sound-is : sound r ≡ true → IsSound r
-  unfolding sound inShape
+  unfolding sound
   sound-is e =
       let p = both-true (inShape r && not (tooLong held-jobs)) (not (noPlan M held-jobs)) e in
       let l = both-true (inShape r) (not (tooLong held-jobs)) (p .0) in
-      let z = both-true _ (unused (drop (r .held) (r .jobs))) (l .0) in
-      let y = both-true _ (listed held-jobs) (z .0) in
-      let x = both-true (ranged && isTable M numbers && zeros (drop (M .levels) (r .table))) (leb (r .held) 64) (y .0) in
-      let w = both-true (ranged && isTable M numbers) (zeros (drop (M .levels) (r .table))) (x .0) in
-      let in-range = shape-machine (l .0) in
-      let by = placing .tests .jobs held-jobs .0 (y .1) in
+      let s = shape-of (l .0) in
       record {
-        places = leb-true (r .held) 64 (x .1);
+        places = s .few;
         rules = record {
-          machine-range = in-range;
-          table-rules = is-table M numbers (both-true ranged (isTable M numbers) (w .0) .1);
-          job-ranges = by .0;
-          by-id = by .1;
-          cycle = not-long held-jobs (not-true (tooLong held-jobs) (l .1));
-          some-plan = plan-passes M in-range held-jobs (not-true (noPlan M held-jobs) (p .1));
+          machine-range = s .machine-range;
+          table-rules = s .table-rules;
+          job-ranges = s .job-ranges;
+          by-id = s .by-id;
+          within-limit = not-long held-jobs (not-true (tooLong held-jobs) (l .1));
+          some-plan = plan-passes M (s .machine-range) held-jobs (not-true (noPlan M held-jobs) (p .1));
         };
-        unused-entries = zeros-is _ (w .1)
+        unused-entries = zeros-is _ (s .entries-after)
             ∙ ap (λ (n : ℕ). replicate {A = ℕ} n 0) (length-drop (M .levels) (r .table) ∙ ap (λ (n : ℕ). n - M .levels) entries);
-        unused-places = placing .tests .places _ .0 (z .1)
+        unused-places = placing .tests .places _ .0 (s .places-after)
             ∙ ap (λ (n : ℕ). replicate n noJob) (length-drop (r .held) (r .jobs) ∙ ap (λ (n : ℕ). n - r .held) places);
       }
 
@@ -167,9 +185,9 @@ module _ (r : Roster) (entries : length (r .table) ≡ 32) (places : length (r .
       (table-is M numbers (k .table-rules)))
       (ap zeros (s .unused-entries) ∙ is-zeros (32 - M .levels)))
       (le-leb (r .held) 64 (s .places)))
-      (placing .tests .jobs held-jobs .1 (k .job-ranges, k .by-id)))
+      (rules-listed M numbers held-jobs k))
       (ap unused (s .unused-places) ∙ unused-is (64 - r .held)))
-      (ap not (long-not held-jobs (k .cycle))))
+      (ap not (long-not held-jobs (k .within-limit))))
       (ap not (passes-plan M (k .machine-range) held-jobs (k .some-plan)))
 
   open-carries : IsSound r → rosterOf (Opened (r .machine) (take (r .machine .levels) (r .table)) (take (r .held) (r .jobs))) ≡ r
@@ -198,7 +216,7 @@ module _ (r : Roster) (entries : length (r .table) ≡ 32) (places : length (r .
         where
           go : Dec (0 < r .machine .processors) → (r ≡ emptyRoster) ⊎ IsSound r
           go (yes h) = inr (form-sound (λ z. omega arith) e)
-          go (no h) = let z : r .machine .processors ≡ 0 = omega arith in inl (zero-empty z (sym (form-none r z) ∙ e))
+          go (no h) = let z : r .machine .processors ≡ 0 = omega arith in inl (zero-empty (sym (form-none r z) ∙ e))
 
       back : (r ≡ emptyRoster) ⊎ IsSound r → wellFormed r ≡ true
       back (inl e) = ap wellFormed e ∙ empty-form
@@ -211,7 +229,7 @@ module _ (r : Roster) (entries : length (r .table) ≡ 32) (places : length (r .
           go (yes h) = let n : r .machine .processors ≡ 0 → ⊥ = λ z. omega arith in ap rosterOf (model-open r n) ∙ open-carries (form-sound n e)
           go (no h) =
               let z : r .machine .processors ≡ 0 = omega arith in
-              ap rosterOf (model-none r z) ∙ closed-roster ∙ sym (zero-empty z (sym (form-none r z) ∙ e))
+              ap rosterOf (model-none r z) ∙ closed-roster ∙ sym (zero-empty (sym (form-none r z) ∙ e))
 
 pub forms : Forms
 forms = form-rule

@@ -10,7 +10,7 @@ use Rattle.gmf.specs.declared.Job.{Job}
 use Rattle.gmf.specs.Trials.{machine, job}
 use Rattle.places.specs.Ranges.{oneTo, jobFits}
 use Rattle.places.specs.Places.{has, insert, remove}
-use Rattle.planner.specs.declared.Refusal.the-variants.{Processors, Speeds, PowerTable, JobNumbers, IdHeld, IdNotHeld, PlacesFull, CycleTooLong, NoPlan}
+use Rattle.planner.specs.declared.Refusal.the-variants.{Processors, Speeds, PowerTable, JobNumbers, IdHeld, IdNotHeld, PlacesFull, HyperperiodTooLong, NoPlan}
 use Rattle.planner.specs.Tests.{speedsFit, isTable, tooLong, noPlan}
 use Rattle.planner.specs.Model.{Closed, Opened, OpenMachine, ReplaceTable, Admit, Retire, refused, accepted, refuseIf, isOpen, onMachine, opened, weighed, admitted, retired, step}
 
@@ -60,7 +60,7 @@ module _ (M : Machine) (table : List ℕ) (jobs : List Job) where
       admit-15 h = rw (fresh, le-leb 64 (length jobs) h)
 
       module _ (free : length jobs < 64) where
-        pub admit-16 : tooLong (insert new jobs) ≡ true → admitted new M table jobs ≡ refused CycleTooLong
+        pub admit-16 : tooLong (insert new jobs) ≡ true → admitted new M table jobs ≡ refused HyperperiodTooLong
         unfolding admitted weighed refuseIf
         admit-16 e = rw (fresh, lt-leb 64 (length jobs) free, e)
 

@@ -1,7 +1,7 @@
 -- What a call on a roster replies, as the code finds it.
 use Prim.Native.Nat.{ℕ, suc, _+_, _-_, _*_, _≤_, _<_}
 use native.Mathlib.Omega.{arith}
-use mathlib.Core.Path.{_≡_, refl, sym, ap, ap₂, subst, _∙_}
+use mathlib.Core.Path.{_≡_, refl, sym, ap, ap₂, _∙_}
 use mathlib.Core.Bool.{Bool, true, false}
 use mathlib.Core.List.{List, [], _∷_, _++_}
 use borrow.Author.Tests.{lt-ltb}
@@ -13,7 +13,6 @@ use Rattle.gmf.specs.Machine.{InRange}
 use Rattle.gmf.specs.Jobs.{JobInRange, hyperperiod, hyperperiodLimit}
 use Rattle.gmf.specs.Power.{defaultTable}
 use Rattle.gmf.specs.Trials.{machine, job}
-use Rattle.gmf.proofs.Hyperperiod.{in-range-positive}
 use Rattle.places.specs.Places.{noJob, placesOf, listed, has, before, insert, remove}
 use Rattle.places.proofs.Results.{placing}
 use Rattle.power_tables.specs.Entries.{entriesOf}
@@ -32,7 +31,7 @@ use Rattle.planner.specs.declared.Answer.the-variants.{Accepted}
 use Rattle.planner.specs.declared.Condition.{Condition}
 use Rattle.planner.specs.declared.Condition.the-variants as condition
 use Rattle.planner.specs.declared.Refusal.{Refusal}
-use Rattle.planner.specs.declared.Refusal.the-variants.{Damaged, NoMachine, MachineOpen, IdHeld, IdNotHeld, PlacesFull, CycleTooLong, NoPlan}
+use Rattle.planner.specs.declared.Refusal.the-variants.{Damaged, NoMachine, MachineOpen, IdHeld, IdNotHeld, PlacesFull, HyperperiodTooLong, NoPlan}
 use Rattle.planner.specs.Tests.{isTable, tooLong}
 use Rattle.planner.specs.Model.{
   Model,
@@ -58,7 +57,8 @@ use Rattle.planner.specs.Roster.{emptyRoster, modelOf, rosterOf, wellFor
 use Rattle.planner.specs.Claims.{IsSound}
 use Rattle.planner.proofs.TestRules.{passes-none}
 use Rattle.planner.proofs.Passing.{long-not, passes-plan}
-use Rattle.planner.proofs.Forms.{form-sound, sound-form, form-rule, model-open, model-none}
+use Rattle.planner.proofs.Forms.{same-roster, rules-listed, form-sound, sound-form, form-rule, model-open, model-none}
+use Rattle.planner.proofs.Conditions.{load-tells}
 use Rattle.planner.proofs.Outcomes.{admit-13, admit-15, admit-16, admit-17, admit-0, retire-14, retire-0}
 
 -- ---- By what the roster was found to be
@@ -150,7 +150,7 @@ module _ (r : Roster) (e : inspected r ≡ condition.Closed) where
 same-fields : (M : Machine) (t u : List ℕ) (a b : ℕ) (v w : List Job) → t ≡ u → a ≡ b → v ≡ w
     → _≡_ {A = Reply} (record { answer = Accepted; roster = record { machine = M; table = t; held = a; jobs = v } })
     (record { answer = Accepted; roster = record { machine = M; table = u; held = b; jobs = w } })
-same-fields M t u a b v w e f g = cc
+same-fields M t u a b v w e f g = ap (λ (r : Roster). record { answer = Accepted; roster = r }) (same-roster _ _ _ _ _ _ _ _ a b t u v w refl refl refl refl e f g)
 
 module _ (r : Roster) (entries : length (r .table) ≡ 32) (places : length (r .jobs) ≡ 64) where
   -- A new machine on the empty roster.
@@ -193,7 +193,7 @@ module _ (r : Roster) (entries : length (r .table) ≡ 32) (places : length (r .
     entered call rest e = ap (replied r) (on-open rest) ∙ reply-open call (rest M numbers jobs) e
 
     pub held-listed : listed jobs ≡ true
-    held-listed = placing .tests .jobs jobs .1 (s .rules .job-ranges, s .rules .by-id)
+    held-listed = rules-listed M numbers jobs (s .rules)
 
     held-count : length jobs ≡ r .held
     held-count = length-take-le (r .held) (r .jobs) (omega (arith, s .places))
@@ -250,7 +250,7 @@ module _ (r : Roster) (entries : length (r .table) ≡ 32) (places : length (r .
 
           pub with-range : (0 < t .hyperperiod) × (t .hyperperiod ≤ hyperperiodLimit) × (t .work ≤ 63 * 65535 * t .hyperperiod)
           with-range =
-              workload .load-rule .range jobs (s .rules .job-ranges) (omega (arith, room)) t (load-within jobs (s .rules .cycle) ∙ ap Within (sym t-is))
+              workload .load-rule .range jobs (s .rules .job-ranges) (omega (arith, room)) t (load-within jobs (s .rules .within-limit) ∙ ap Within (sym t-is))
 
           -- The load with the new job, wherever it stands.
           load-is : loadOf more ≡ withJob t new
@@ -266,16 +266,15 @@ module _ (r : Roster) (entries : length (r .table) ≡ 32) (places : length (r .
           ranges = s .rules .machine-range
 
           tells : (l : Load) → l ≡ withJob t new → (v : Verdict) → judged (M .processors) l ≡ v → Tells M more v
-          tells l l-is v e =
-              let by = placing .tests .jobs more .0 (placing .inserts new jobs .listed-again in-range held-listed fresh) in
-              let judges = workload .judges M ranges more (in-range-positive more (by .0)) in
-              subst (Tells M more) (sym (judges .by-load) ∙ ap (judged (M .processors)) (load-is ∙ sym l-is) ∙ e) (judges .tells)
+          tells l l-is =
+              load-tells M ranges more (placing .tests .jobs more .0 (placing .inserts new jobs .listed-again in-range held-listed fresh) .0) l
+              (l-is ∙ sym load-is)
 
           module _ (l : Load) (l-is : l ≡ withJob t new) where
-            pub enter-long : judged (M .processors) l ≡ verdict.TooLong → replied r (refused CycleTooLong) ≡ asked
+            pub enter-long : judged (M .processors) l ≡ verdict.TooLong → replied r (refused HyperperiodTooLong) ≡ asked
             unfolding Tells tooLong
             enter-long e =
-                settled (refused CycleTooLong) (admit-16 M numbers jobs new fresh room (lt-ltb hyperperiodLimit (hyperperiod more) (tells l l-is verdict.TooLong e)))
+                settled (refused HyperperiodTooLong) (admit-16 M numbers jobs new fresh room (lt-ltb hyperperiodLimit (hyperperiod more) (tells l l-is verdict.TooLong e)))
 
             pub enter-none : judged (M .processors) l ≡ verdict.NoPlan → replied r (refused NoPlan) ≡ asked
             unfolding Tells

@@ -69,36 +69,38 @@ accepted-table M table false h = go (isTable M table) refl
 -- ---- The empty roster
 
 module _ (r : Roster) where
-  pub zero-1 : (r .machine .levels ≡ 0 → ⊥) → false ≡ allZero r
+  pub zero-1 : (r .machine .processors ≡ 0 → ⊥) → false ≡ allZero r
   unfolding allZero
-  zero-1 n = rw (ne-eqb (r .machine .levels) 0 n)
+  zero-1 n = rw (ne-eqb (r .machine .processors) 0 n)
 
-  module _ (a : r .machine .levels ≡ 0) where
-    pub zero-2 : (r .machine .lowest ≡ 0 → ⊥) → false ≡ allZero r
+  module _ (e₁ : r .machine .processors ≡ 0) where
+    pub zero-2 : (r .machine .levels ≡ 0 → ⊥) → false ≡ allZero r
     unfolding allZero
-    zero-2 n = rw (eq-eqb (r .machine .levels) 0 a, ne-eqb (r .machine .lowest) 0 n)
+    zero-2 n = rw (eq-eqb _ 0 e₁, ne-eqb (r .machine .levels) 0 n)
 
-    module _ (b : r .machine .lowest ≡ 0) where
-      pub zero-3 : (r .machine .step ≡ 0 → ⊥) → false ≡ allZero r
+    module _ (e₂ : r .machine .levels ≡ 0) where
+      pub zero-3 : (r .machine .lowest ≡ 0 → ⊥) → false ≡ allZero r
       unfolding allZero
-      zero-3 n = rw (eq-eqb (r .machine .levels) 0 a, eq-eqb (r .machine .lowest) 0 b, ne-eqb (r .machine .step) 0 n)
+      zero-3 n = rw (eq-eqb _ 0 e₁, eq-eqb _ 0 e₂, ne-eqb (r .machine .lowest) 0 n)
 
-      module _ (d : r .machine .step ≡ 0) where
-        pub zero-4 : (r .held ≡ 0 → ⊥) → false ≡ allZero r
+      module _ (e₃ : r .machine .lowest ≡ 0) where
+        pub zero-4 : (r .machine .step ≡ 0 → ⊥) → false ≡ allZero r
         unfolding allZero
-        zero-4 n =
-            rw (eq-eqb (r .machine .levels) 0 a, eq-eqb (r .machine .lowest) 0 b, eq-eqb (r .machine .step) 0 d, ne-eqb (r .held) 0 n)
+        zero-4 n = rw (eq-eqb _ 0 e₁, eq-eqb _ 0 e₂, eq-eqb _ 0 e₃, ne-eqb (r .machine .step) 0 n)
 
-        module _ (h : r .held ≡ 0) where
-          pub zero-5 : zeros (r .table) ≡ false → false ≡ allZero r
+        module _ (e₄ : r .machine .step ≡ 0) where
+          pub zero-5 : (r .held ≡ 0 → ⊥) → false ≡ allZero r
           unfolding allZero
-          zero-5 e =
-              rw (eq-eqb (r .machine .levels) 0 a, eq-eqb (r .machine .lowest) 0 b, eq-eqb (r .machine .step) 0 d, eq-eqb (r .held) 0 h, e)
+          zero-5 n = rw (eq-eqb _ 0 e₁, eq-eqb _ 0 e₂, eq-eqb _ 0 e₃, eq-eqb _ 0 e₄, ne-eqb (r .held) 0 n)
 
-          pub zero-6 : zeros (r .table) ≡ true → unused (r .jobs) ≡ allZero r
-          unfolding allZero
-          zero-6 e =
-              rw (eq-eqb (r .machine .levels) 0 a, eq-eqb (r .machine .lowest) 0 b, eq-eqb (r .machine .step) 0 d, eq-eqb (r .held) 0 h, e)
+          module _ (e₅ : r .held ≡ 0) where
+            pub zero-6 : zeros (r .table) ≡ false → false ≡ allZero r
+            unfolding allZero
+            zero-6 e = rw (eq-eqb _ 0 e₁, eq-eqb _ 0 e₂, eq-eqb _ 0 e₃, eq-eqb _ 0 e₄, eq-eqb _ 0 e₅, e)
+
+            pub zero-7 : zeros (r .table) ≡ true → unused (r .jobs) ≡ allZero r
+            unfolding allZero
+            zero-7 e = rw (eq-eqb _ 0 e₁, eq-eqb _ 0 e₂, eq-eqb _ 0 e₃, eq-eqb _ 0 e₄, eq-eqb _ 0 e₅, e)
 
 -- ---- A roster with a machine
 

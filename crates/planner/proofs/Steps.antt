@@ -16,7 +16,7 @@ use Rattle.gmf.specs.Trials.{machine, job}
 use Rattle.gmf.specs.Claims.{Feasible}
 use Rattle.gmf.proofs.Hyperperiod.{in-range-positive}
 use Rattle.gmf.proofs.Results.{method}
-use Rattle.places.specs.Places.{listed, has, insert, remove}
+use Rattle.places.specs.Places.{has, insert, remove}
 use Rattle.places.proofs.Results.{placing}
 use Rattle.planner.specs.declared.Refusal.{Refusal}
 use Rattle.planner.specs.Tests.{isTable, tooLong, noPlan}
@@ -25,7 +25,7 @@ use Rattle.planner.specs.Calls.{refusalNumber, after}
 use Rattle.planner.specs.Claims.{Rules}
 use Rattle.planner.proofs.TestRules.{machine-range, is-table}
 use Rattle.planner.proofs.Passing.{not-long, plan-passes}
-use Rattle.planner.proofs.Forms.{Kept}
+use Rattle.planner.proofs.Forms.{rules-listed, Kept}
 
 -- An outcome that is no refusal by 7 and leaves the rules kept.
 pub data Fair : Outcome → Type 0 where
@@ -64,16 +64,13 @@ opens M r = (
     table-rules = method .default-table M (r .top-speed) .is-table;
     job-ranges = tt;
     by-id = tt;
-    cycle = omega arith;
+    within-limit = omega arith;
     some-plan = no-jobs-fit M r;
   },
   omega arith,
 )
 
 module _ (M : Machine) (table : List ℕ) (jobs : List Job) (rules : Rules M table jobs) (few : length jobs ≤ 64) where
-  pub is-listed : listed jobs ≡ true
-  is-listed = placing .tests .jobs jobs .1 (rules .job-ranges, rules .by-id)
-
   replaces : (numbers : List ℕ) → isTable M numbers ≡ true → Kept (Opened M numbers jobs)
   replaces numbers e = (
     record {
@@ -81,7 +78,7 @@ module _ (M : Machine) (table : List ℕ) (jobs : List Job) (rules : Rules M tab
       table-rules = is-table M numbers e;
       job-ranges = rules .job-ranges;
       by-id = rules .by-id;
-      cycle = rules .cycle;
+      within-limit = rules .within-limit;
       some-plan = rules .some-plan;
     },
     few,
@@ -90,13 +87,13 @@ module _ (M : Machine) (table : List ℕ) (jobs : List Job) (rules : Rules M tab
   admits : (new : Job) → JobInRange new → has (new .id) jobs ≡ false → length jobs < 64 → tooLong (insert new jobs) ≡ false → noPlan M (insert new jobs) ≡ false
       → Kept (Opened M table (insert new jobs))
   admits new in-range fresh free short passing =
-      let by = placing .tests .jobs (insert new jobs) .0 (placing .inserts new jobs .listed-again in-range is-listed fresh) in (
+      let by = placing .tests .jobs (insert new jobs) .0 (placing .inserts new jobs .listed-again in-range (rules-listed M table jobs rules) fresh) in (
         record {
           machine-range = rules .machine-range;
           table-rules = rules .table-rules;
           job-ranges = by .0;
           by-id = by .1;
-          cycle = not-long (insert new jobs) short;
+          within-limit = not-long (insert new jobs) short;
           some-plan = plan-passes M (rules .machine-range) (insert new jobs) passing;
         },
         omega (arith, placing .inserts new jobs .size),
@@ -116,14 +113,14 @@ module _ (M : Machine) (table : List ℕ) (jobs : List Job) (rules : Rules M tab
 
   retires : (id : ℕ) → has id jobs ≡ true → Kept (Opened M table (remove id jobs))
   retires id there =
-      let by = placing .tests .jobs (remove id jobs) .0 (placing .removes id jobs .listed-again is-listed) in
+      let by = placing .tests .jobs (remove id jobs) .0 (placing .removes id jobs .listed-again (rules-listed M table jobs rules)) in
       let fit = retires-fit id there in (
         record {
           machine-range = rules .machine-range;
           table-rules = rules .table-rules;
           job-ranges = by .0;
           by-id = by .1;
-          cycle = le-trans (fit .0) (rules .cycle);
+          within-limit = le-trans (fit .0) (rules .within-limit);
           some-plan = fit .1;
         },
         omega (arith, placing .removes id jobs .size there),

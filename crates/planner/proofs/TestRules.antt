@@ -117,6 +117,6 @@ test-rule = record {
     λ r. ap₂ _&&_ (range-processors m L b d r) (range-speeds m L b d r),
   );
   tables = λ M table. (is-table M table, table-is M table);
-  cycles = λ jobs. (ltb-true hyperperiodLimit (hyperperiod jobs), lt-ltb hyperperiodLimit (hyperperiod jobs));
+  limits = λ jobs. (ltb-true hyperperiodLimit (hyperperiod jobs), lt-ltb hyperperiodLimit (hyperperiod jobs));
   plans = λ M in-range jobs. (none-passes M in-range jobs, passes-none M in-range jobs);
 }

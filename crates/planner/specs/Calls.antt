@@ -15,7 +15,7 @@ use Rattle.planner.specs.declared.Refusal.the-variants.{
   IdHeld,
   IdNotHeld,
   PlacesFull,
-  CycleTooLong,
+  HyperperiodTooLong,
   NoPlan,
 }
 use Rattle.planner.specs.declared.Answer.{Answer}
@@ -35,7 +35,7 @@ refusalNumber MachineOpen = 12
 refusalNumber IdHeld = 13
 refusalNumber IdNotHeld = 14
 refusalNumber PlacesFull = 15
-refusalNumber CycleTooLong = 16
+refusalNumber HyperperiodTooLong = 16
 refusalNumber NoPlan = 17
 
 -- "Compared are each call's acceptance or refusal number …": 0 is acceptance.
@@ -43,6 +43,7 @@ unfoldable pub numberOf : Answer → ℕ
 numberOf Accepted = 0
 numberOf (Refused refusal) = refusalNumber refusal
 
+-- The same number of what a call does to the model.
 unfoldable pub outcomeNumber : Outcome → ℕ
 outcomeNumber (refused refusal) = refusalNumber refusal
 outcomeNumber (accepted model) = 0
@@ -57,6 +58,7 @@ unfoldable pub modelNumbers : Model → List Call → List ℕ
 modelNumbers model [] = []
 modelNumbers model (call ∷ calls) = outcomeNumber (step model call) ∷ modelNumbers (after model (step model call)) calls
 
+-- The model after a list of calls.
 unfoldable pub modelAfter : Model → List Call → Model
 modelAfter model [] = model
 modelAfter model (call ∷ calls) = modelAfter (after model (step model call)) calls
@@ -66,6 +68,7 @@ unfoldable pub replyNumbers : Roster → List Call → List ℕ
 replyNumbers roster [] = []
 replyNumbers roster (call ∷ calls) = numberOf (replyTo roster call .answer) ∷ replyNumbers (replyTo roster call .roster) calls
 
+-- "… and the roster at the end."
 unfoldable pub rosterAfter : Roster → List Call → Roster
 rosterAfter roster [] = roster
 rosterAfter roster (call ∷ calls) = rosterAfter (replyTo roster call .roster) calls

@@ -27,7 +27,7 @@ use Rattle.planner.specs.declared.Refusal.the-variants.{
   IdHeld,
   IdNotHeld,
   PlacesFull,
-  CycleTooLong,
+  HyperperiodTooLong,
   NoPlan,
 }
 use Rattle.planner.specs.declared.Answer.the-variants.{Accepted, Refused}
@@ -44,7 +44,7 @@ pub record TestRule : Type 0 where
   -- 3: a power table.
   pub tables : (M : Machine) (table : List ℕ) → (isTable M table ≡ true) ↔ IsTable M table
   -- 16: the hyperperiod is above its limit.
-  pub cycles : (jobs : List Job) → (tooLong jobs ≡ true) ↔ (hyperperiodLimit < hyperperiod jobs)
+  pub limits : (jobs : List Job) → (tooLong jobs ≡ true) ↔ (hyperperiodLimit < hyperperiod jobs)
   -- 17: no plan passes.
   pub plans : (M : Machine) → InRange M → (jobs : List Job) → (noPlan M jobs ≡ true) ↔ NonePasses M (hyperperiod jobs) (works jobs)
 
@@ -56,7 +56,7 @@ pub record Rules (M : Machine) (table : List ℕ) (jobs : List Job) : Type 0 whe
   pub table-rules : IsTable M table
   pub job-ranges : Every JobInRange jobs
   pub by-id : ByRisingId jobs
-  pub cycle : hyperperiod jobs ≤ hyperperiodLimit
+  pub within-limit : hyperperiod jobs ≤ hyperperiodLimit
   pub some-plan : Feasible M jobs
 
 -- What a roster with a machine is: the jobs fill the first places, at most 64 of them, and what is not used is 0.
@@ -76,14 +76,22 @@ Forms = (r : Roster) → length (r .table) ≡ 32 → length (r .jobs) ≡ 64 �
 
 -- ---- Lists of calls
 
--- "… a job in range, under a new id, with a place free and the cycle within its limit, is turned down exactly when no plan passes with it
--- added."
-pub record TurnedDown (roster : Roster) (M : Machine) (jobs : List Job) : Type 0 where
-  pub by-17 : (new : Job) → JobInRange new → has (new .id) jobs ≡ false → length jobs < 64 → hyperperiod (insert new jobs) ≤ hyperperiodLimit
-      → (replyTo roster (Admit (new .id) (new .cost) (new .period)) .answer ≡ Refused NoPlan)
-      ↔ NonePasses M (hyperperiod (insert new jobs)) (works (insert new jobs))
-  pub or-accepted : (new : Job) → JobInRange new → has (new .id) jobs ≡ false → length jobs < 64 → hyperperiod (insert new jobs) ≤ hyperperiodLimit
-      → (replyTo roster (Admit (new .id) (new .cost) (new .period)) .answer ≡ Accepted) ↔ Feasible M (insert new jobs)
+-- A job that is offered to a roster with these jobs: in range, under a new id, with a place free and the hyperperiod within its limit.
+pub record Offered (jobs : List Job) (new : Job) : Type 0 where
+  pub in-range : JobInRange new
+  pub new-id : has (new .id) jobs ≡ false
+  pub place-free : length jobs < 64
+  pub within-limit : hyperperiod (insert new jobs) ≤ hyperperiodLimit
+
+-- The number of the answer to it.
+unfoldable pub answerTo : Roster → Job → ℕ
+answerTo roster new = numberOf (replyTo roster (Admit (new .id) (new .cost) (new .period)) .answer)
+
+-- Demand 3: it "is turned down exactly when no plan passes with it added"; then by 17, and otherwise it is accepted.
+pub record TurnedDown (roster : Roster) (M : Machine) (jobs : List Job) (new : Job) : Type 0 where
+  pub turned-down : (answerTo roster new ≡ 0 → ⊥) ↔ NonePasses M (hyperperiod (insert new jobs)) (works (insert new jobs))
+  pub by-17 : (answerTo roster new ≡ 17) ↔ NonePasses M (hyperperiod (insert new jobs)) (works (insert new jobs))
+  pub or-accepted : (answerTo roster new ≡ 0) ↔ Feasible M (insert new jobs)
 
 -- For every list of calls from the empty roster, refused ones included.
 pub record Follows (calls : List Call) : Type 0 where
@@ -95,9 +103,11 @@ pub record Follows (calls : List Call) : Type 0 where
   pub never-7 : (call : Call) → numberOf (replyTo (rosterAfter emptyRoster calls) call .answer) ≡ 7 → ⊥
   -- What the roster carries is the model.
   pub model : modelOf (rosterAfter emptyRoster calls) ≡ modelAfter Closed calls
-  -- On an open machine the rules hold, and a job is turned down exactly when no plan passes.
-  pub rules : (M : Machine) (table : List ℕ) (jobs : List Job) → modelAfter Closed calls ≡ Opened M table jobs
-      → Rules M table jobs × (length jobs ≤ 64) × TurnedDown (rosterAfter emptyRoster calls) M jobs
+  -- On an open machine the rules hold, at most 64 jobs are held, and a job is turned down exactly when no plan passes.
+  pub rules : (M : Machine) (table : List ℕ) (jobs : List Job) → modelAfter Closed calls ≡ Opened M table jobs → Rules M table jobs
+  pub at-most-64 : (M : Machine) (table : List ℕ) (jobs : List Job) → modelAfter Closed calls ≡ Opened M table jobs → length jobs ≤ 64
+  pub turned-down : (M : Machine) (table : List ℕ) (jobs : List Job) → modelAfter Closed calls ≡ Opened M table jobs
+      → (new : Job) → Offered jobs new → TurnedDown (rosterAfter emptyRoster calls) M jobs new
 
 -- ---- Known results
 
@@ -119,7 +129,7 @@ pub record CallTrials : Type 0 where
       ∷ Refused IdHeld
       ∷ Refused IdNotHeld
       ∷ Refused PlacesFull
-      ∷ Refused CycleTooLong
+      ∷ Refused HyperperiodTooLong
       ∷ Refused NoPlan
       ∷ []
       ) ≡ 0 ∷ 1 ∷ 2 ∷ 3 ∷ 4 ∷ 7 ∷ 11 ∷ 12 ∷ 13 ∷ 14 ∷ 15 ∷ 16 ∷ 17 ∷ []
@@ -153,11 +163,13 @@ pub record CallTrials : Type 0 where
       ∷ []
       ) ≡ 0 ∷ 12 ∷ 0 ∷ 4 ∷ 13 ∷ 16 ∷ 17 ∷ 4 ∷ 14 ∷ 0 ∷ 0 ∷ []
   -- "Tables for three levels: 18 48 100 and 5 5 5 accepted; 0 5 9 refused 3." A refused one leaves the table.
-  pub tables : modelAfter Closed (
-      OpenMachine 1 3 1 1 ∷ ReplaceTable (18 ∷ 48 ∷ 100 ∷ []) ∷ ReplaceTable (0 ∷ 5 ∷ 9 ∷ []) ∷ []
-      ) ≡ Opened (machine 1 3 1 1) (18 ∷ 48 ∷ 100 ∷ []) []
+  pub tables : modelNumbers Closed (
+      OpenMachine 1 3 1 1 ∷ ReplaceTable (18 ∷ 48 ∷ 100 ∷ []) ∷ ReplaceTable (5 ∷ 5 ∷ 5 ∷ []) ∷ ReplaceTable (0 ∷ 5 ∷ 9 ∷ []) ∷ []
+      ) ≡ 0 ∷ 0 ∷ 0 ∷ 3 ∷ []
+  pub table-left : modelAfter Closed (OpenMachine 1 3 1 1 ∷ ReplaceTable (18 ∷ 48 ∷ 100 ∷ []) ∷ ReplaceTable (0 ∷ 5 ∷ 9 ∷ []) ∷ [])
+      ≡ Opened (machine 1 3 1 1) (18 ∷ 48 ∷ 100 ∷ []) []
   -- A new machine has the cubes of its speeds, here 2, 5 and 8.
-  pub house-table : modelAfter Closed (OpenMachine 1 3 2 3 ∷ []) ≡ Opened (machine 1 3 2 3) (8 ∷ 125 ∷ 512 ∷ []) []
+  pub default-table : modelAfter Closed (OpenMachine 1 3 2 3 ∷ []) ≡ Opened (machine 1 3 2 3) (8 ∷ 125 ∷ 512 ∷ []) []
   -- 64 jobs are held: 13 before 15, and 15 before 16 and 17; and 14.
   pub all-held : map (λ call. outcomeNumber (step (Opened (machine 1 1 1 1) (1 ∷ []) (jobsFrom 1 (replicate 64 (1, 4096)))) call)) (
       Admit 64 9000 4097 ∷ Admit 65 9000 4097 ∷ Retire 65 ∷ Retire 64 ∷ []
@@ -165,6 +177,11 @@ pub record CallTrials : Type 0 where
   -- What the calls leave on a roster, refused ones among them.
   pub left : rosterAfter emptyRoster (OpenMachine 1 3 1 1 ∷ Admit 7 1 2 ∷ Retire 8 ∷ ReplaceTable (0 ∷ 5 ∷ 9 ∷ []) ∷ [])
       ≡ rosterWith (machine 1 3 1 1) (1 ∷ 8 ∷ 27 ∷ []) 1 (job 7 1 2 ∷ [])
+  -- 7 comes before 12, 3, 4 and 14, and the damaged roster comes back as it was.
+  pub damaged : map (λ call. numberOf (replyTo (rosterWith (machine 1 1 1 1) (1 ∷ []) 1 []) call .answer)) (
+      OpenMachine 0 0 0 0 ∷ ReplaceTable [] ∷ Admit 0 0 0 ∷ Retire 9 ∷ []
+      ) ≡ 7 ∷ 7 ∷ 7 ∷ 7 ∷ []
+  pub damaged-left : replyTo (rosterWith (machine 1 1 1 1) (1 ∷ []) 1 []) (Retire 9) .roster ≡ rosterWith (machine 1 1 1 1) (1 ∷ []) 1 []
 
 -- Rosters that keep every rule, and rosters that break one.
 pub record FormTrials : Type 0 where

@@ -21,7 +21,7 @@ use Rattle.planner.specs.declared.Refusal.the-variants.{
   IdHeld,
   IdNotHeld,
   PlacesFull,
-  CycleTooLong,
+  HyperperiodTooLong,
   NoPlan,
 }
 use Rattle.planner.specs.Tests.{speedsFit, isTable, tooLong, noPlan}
@@ -65,7 +65,7 @@ opened M = Opened M (defaultTable M) []
 -- The conditions 16 and 17, on the jobs with the new one.
 unfoldable pub weighed : Machine → List ℕ → List Job → Outcome
 weighed M table jobs =
-    refuseIf (tooLong jobs) CycleTooLong
+    refuseIf (tooLong jobs) HyperperiodTooLong
     (refuseIf (noPlan M jobs) NoPlan
     (accepted (Opened M table jobs)))
 

@@ -1,5 +1,5 @@
 -- The roster: what it carries of the model, when it is well formed, and what a call on it replies.
-use mathlib.Core.Bool.{Bool, true, false, not, _&&_}
+use mathlib.Core.Bool.{Bool, true, false, not, _&&_, _||_}
 use lib.Dec.{leb, eqb}
 use lib.ListN.{length, take, drop, replicate}
 use Rattle.gmf.specs.Trials.{machine}
@@ -16,7 +16,7 @@ use Rattle.planner.specs.declared.Reply.{Reply}
 use Rattle.planner.specs.Tests.{speedsFit, isTable, tooLong, noPlan}
 use Rattle.planner.specs.Model.{Model, Closed, Opened, Call, Outcome, refused, accepted, step}
 
--- "With no machine it is all zeros and holds no job …".
+-- "A list starts from the roster of all zeros."
 unfoldable pub emptyRoster : Roster
 emptyRoster = record { machine = machine 0 0 0 0; table = replicate 32 0; held = 0; jobs = replicate 64 noJob }
 
@@ -50,25 +50,27 @@ inShape r =
 unfoldable pub sound : Roster → Bool
 sound r = inShape r && not (tooLong (take (r .held) (r .jobs))) && not (noPlan (r .machine) (take (r .held) (r .jobs)))
 
--- With no machine, every field is 0.
+-- "With no machine it is all zeros and holds no job …".
 unfoldable pub allZero : Roster → Bool
 allZero r =
-    eqb (r .machine .levels) 0
+    eqb (r .machine .processors) 0
+    && eqb (r .machine .levels) 0
     && eqb (r .machine .lowest) 0
     && eqb (r .machine .step) 0
     && eqb (r .held) 0
     && zeros (r .table)
     && unused (r .jobs)
 
--- No rule is broken.
+-- A roster breaks no rule where it is empty or sound.
 unfoldable pub wellFormed : Roster → Bool
-wellFormed r = elim (eqb (r .machine .processors) 0) [ true ↦ allZero r | false ↦ sound r ]
+wellFormed r = allZero r || sound r
 
 -- What is told of a roster: refused by 7, no machine, or a machine and the totals of its jobs.
 unfoldable pub conditionOf : Model → Condition
 conditionOf Closed = condition.Closed
 conditionOf (Opened M table jobs) = condition.Open (totals jobs)
 
+-- 7 "is looked at before everything else" here as well.
 unfoldable pub inspected : Roster → Condition
 inspected r = elim (wellFormed r) [ true ↦ conditionOf (modelOf r) | false ↦ condition.Damaged ]
 

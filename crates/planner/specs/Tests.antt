@@ -34,10 +34,11 @@ isTable M table =
 unfoldable pub tooLong : List Job → Bool
 tooLong jobs = ltb hyperperiodLimit (hyperperiod jobs)
 
--- Refusal 17: "No plan passes with the new job." Growing finds none.
+-- Growing has found no plan.
 unfoldable pub foundNone : Growth → Bool
 foundNone (Grown plan raises) = false
 foundNone NoPlan = true
 
+-- Refusal 17: "No plan passes with the new job."
 unfoldable pub noPlan : Machine → List Job → Bool
 noPlan M jobs = foundNone (planOf M jobs)

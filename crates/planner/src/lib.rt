@@ -56,10 +56,11 @@ pub enum Refusal {
     IdHeld,
     IdNotHeld,
     PlacesFull,
-    CycleTooLong,
+    HyperperiodTooLong,
     NoPlan,
 }
 
+// What a call answers.
 pub enum Answer {
     Accepted,
     Refused(Refusal),
@@ -87,7 +88,7 @@ impl Refusal {
             Refusal::IdHeld => 13,
             Refusal::IdNotHeld => 14,
             Refusal::PlacesFull => 15,
-            Refusal::CycleTooLong => 16,
+            Refusal::HyperperiodTooLong => 16,
             Refusal::NoPlan => 17,
         }
     }
@@ -140,7 +141,7 @@ fn place_of(jobs: [Job; 64], held: usize, id: u16) -> usize
     low
 }
 
-// Whether the job with an id, if it is held, stands at the place found for it.
+// Whether an id is held: its job then stands at the place found for it.
 fn stands_at(jobs: [Job; 64], held: usize, at: usize, id: u16) -> bool
     requires { ⌜ (held ≤ 64) × (listed (take held jobs) ≡ true) × (at ≡ before id (take held jobs)) ⌝ }
     ensures { λ r. ⌜ r ≡ has id (take held jobs) ⌝ }
@@ -184,13 +185,16 @@ impl Roster {
         }
     }
 
-    // Whether every field but the count of processors is 0.
+    // Whether every field is 0.
     fn is_zero(self) -> bool
         ensures { λ r. ⌜ r ≡ allZero self ⌝ }
     {
         let machine = self.machine;
         let table = self.table;
         let jobs = self.jobs;
+        if machine.processors != 0 {
+            return false;
+        }
         if machine.levels != 0 {
             return false;
         }
@@ -244,11 +248,8 @@ impl Roster {
     pub fn inspect(self) -> Condition
         ensures { λ r. ⌜ r ≡ inspected self ⌝ }
     {
-        if self.machine.processors == 0 {
-            if self.is_zero() {
-                return Condition::Closed;
-            }
-            return Condition::Damaged;
+        if self.is_zero() {
+            return Condition::Closed;
         }
         if !self.in_shape() {
             return Condition::Damaged;
@@ -301,7 +302,7 @@ impl Roster {
         }
     }
 
-    // Puts another power table in force.
+    // Puts another power table in force. A refusal gives back the roster that came, and not the one that has the table.
     pub fn replace_table(self, values: &[u32]) -> Reply
         ensures { λ r. ⌜ r ≡ replyTo self (ReplaceTable (now (values .entry))) ⌝ }
     {
@@ -362,9 +363,10 @@ impl Roster {
             return refuse(self, Refusal::PlacesFull);
         }
         let load = totals.with(job);
-        let verdict = load.judge(self.machine.processors);
+        let processors = self.machine.processors;
+        let verdict = load.judge(processors);
         match verdict {
-            Verdict::TooLong => refuse(self, Refusal::CycleTooLong),
+            Verdict::TooLong => refuse(self, Refusal::HyperperiodTooLong),
             Verdict::NoPlan => refuse(self, Refusal::NoPlan),
             Verdict::SomePlan => {
                 let with_it = put_in(jobs, at, job);
@@ -379,7 +381,7 @@ impl Roster {
         }
     }
 
-    // Retires a job. The rest has no more work in its own hyperperiod, so that some plan still passes.
+    // Retires a job.
     pub fn retire(self, id: u64) -> Reply
         ensures { λ r. ⌜ r ≡ replyTo self (Retire id) ⌝ }
     {
@@ -396,7 +398,7 @@ impl Roster {
         }
     }
 
-    // The job with an id goes out.
+    // The job with an id goes out. The rest has no more work in its own hyperperiod, so that some plan still passes.
     fn leave(self, id: u16) -> Reply
         requires { ⌜ IsSound self ⌝ }
         ensures { λ r. ⌜ r ≡ replied self (onMachine (modelOf self) (retired id)) ⌝ }

@@ -73,13 +73,13 @@ returns c =
     (reply-open _ (entries s) (places s) (open-at o .0) _ _ (admit-4 _ _ _ _ _ _ (sym (f .job-fits .ensures) ∙ not-true _ (c .before .if1 .taken))))
 
 cast-t14 : tie.Need-cast-t14
-cast-t14 c = omega (arith, in-range c .id)
+cast-t14 c = omega (arith, in-range c .id, in-range c .cost, in-range c .period)
 
 cast-t15 : tie.Need-cast-t15
-cast-t15 c = omega (arith, in-range c .cost)
+cast-t15 c = omega (arith, in-range c .id, in-range c .cost, in-range c .period)
 
 cast-t16 : tie.Need-cast-t16
-cast-t16 c = omega (arith, in-range c .period)
+cast-t16 c = omega (arith, in-range c .id, in-range c .cost, in-range c .period)
 
 enter-requires : tie.Need-enter-requires
 enter-requires c κs = let o = open-at (c .before .before .before) in (o .0, o .1, in-range c)

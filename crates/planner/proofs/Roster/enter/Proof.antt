@@ -4,7 +4,7 @@ use mathlib.Core.Bool.{false}
 use borrow.Author.Needs.{needs}
 use lib.ListN.{length, take, length-map}
 use Rattle.places.specs.Places.{has}
-use Rattle.planner.specs.declared.Refusal.the-variants.{CycleTooLong, IdHeld, NoPlan, PlacesFull}
+use Rattle.planner.specs.declared.Refusal.the-variants.{HyperperiodTooLong, IdHeld, NoPlan, PlacesFull}
 use Rattle.planner.proofs.Replies.{refused-by, held-listed, with-range, enter-held, enter-full, enter-long, enter-none, enter-in}
 use Rattle.planner.proofs.Roster.enter.Statement.{statement}
 use Rattle.planner.proofs.Roster.enter.Tie as tie
@@ -90,7 +90,7 @@ returns-3 c =
     let j = c .before .before .before in
     let e = j .before .before in
     let s = begin e in
-    refused-by (s .args .self) CycleTooLong (c .refuse3 .ensures) refl refl
+    refused-by (s .args .self) HyperperiodTooLong (c .refuse3 .ensures) refl refl
     (enter-long _ (entries s) (places s) (s .pre .0) _ (fresh (e .before)) (e .if2 .left) (s .pre .2) _ (s .pre .1) _ (j .before .with .ensures)
     (sym (j .judge .ensures) ∙ c .before .enum-told .given .1))
 

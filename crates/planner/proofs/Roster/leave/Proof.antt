@@ -1,4 +1,5 @@
 -- `planner::Roster::leave` meets its contract.
+use native.Mathlib.Omega.{arith}
 use mathlib.Core.Path.{_≡_, refl, sym, _∙_}
 use mathlib.Core.Bool.{true}
 use borrow.Author.Needs.{needs}
@@ -51,7 +52,7 @@ sub-next : tie.Need-sub-next
 sub-next c =
     let e = c .before .before in
     let s = e .before .before .before .before .before in
-    leave-some _ (entries s) (places s) (s .pre) _ (there e)
+    omega (arith, leave-some _ (entries s) (places s) (s .pre) _ (there e))
 
 returns-2 : tie.Need-returns-2
 returns-2 c =
