@@ -5,10 +5,10 @@ use native.Mathlib.Omega.{arith}
 use mathlib.Core.Path.{refl}
 use mathlib.Core.List.{List, [], _∷_}
 use Rattle.number.specs.Divisors.{lcm, gcd, euclid}
-use Rattle.gmf.specs.Machine.{speed, top}
+use Rattle.gmf.specs.Machine.{speed, top, machine}
 use Rattle.gmf.specs.Jobs.{ifWithin, window, hyperperiod, work, works}
 use Rattle.gmf.specs.Power.{power, rise, powerLimit, IsTable}
-use Rattle.gmf.specs.Trials.{machine, quarters, jobsFrom, RangeEdges, JobEdges, LimitEdges, TableEdges}
+use Rattle.gmf.specs.Trials.{quarters, jobsFrom, RangeEdges, JobEdges, LimitEdges, TableEdges}
 use Rattle.gmf.specs.Claims.{FitsEdges}
 
 pub range-edges : RangeEdges

@@ -6,6 +6,10 @@ use lib.Dec.{leb}
 use Rattle.number.specs.Divisors.{lcm}
 use Rattle.gmf.specs.declared.Job.{Job}
 
+-- A job from its id, C and T, in the order of 01's frame 03.
+abbrev pub job : ℕ → ℕ → ℕ → Job
+job id cost period = record { id = id; cost = cost; period = period }
+
 -- "A job has an id, a cost C and a period T, each 1 to 65,535."
 pub record JobInRange (job : Job) : Type 0 where
   pub id : (1 ≤ job .id) × (job .id ≤ 65535)

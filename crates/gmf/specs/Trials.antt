@@ -8,18 +8,10 @@ use mathlib.Core.List.{List, [], _∷_, map}
 use lib.ListN.{length}
 use Rattle.gmf.specs.declared.Machine.{Machine}
 use Rattle.gmf.specs.declared.Job.{Job}
-use Rattle.gmf.specs.Machine.{InRange}
-use Rattle.gmf.specs.Jobs.{JobInRange, ByRisingId, ifWithin, hyperperiod, works}
+use Rattle.gmf.specs.Machine.{InRange, machine}
+use Rattle.gmf.specs.Jobs.{JobInRange, ByRisingId, ifWithin, hyperperiod, works, job}
 use Rattle.gmf.specs.Growing.{Growth, Grown, NoPlan, holds, planOf}
 use Rattle.gmf.specs.Power.{IsTable, total, defaultTable}
-
--- A machine from m, L, b and d, in the order of 01's frame 01.
-unfoldable pub machine : ℕ → ℕ → ℕ → ℕ → Machine
-machine m L b d = record { processors = m; levels = L; lowest = b; step = d }
-
--- A job from its id, C and T, in the order of 01's frame 03.
-abbrev pub job : ℕ → ℕ → ℕ → Job
-job id cost period = record { id = id; cost = cost; period = period }
 
 -- "… quarters: b = 1, d = 1, L = 4 …".
 unfoldable pub quarters : ℕ → Machine

@@ -10,13 +10,13 @@ use lib.Seq.{take-append-seam, drop-append-seam}
 use Rattle.number.specs.Divisors.{euclid, gcd, lcm}
 use Rattle.gmf.specs.declared.Machine.{Machine}
 use Rattle.gmf.specs.declared.Job.{Job}
-use Rattle.gmf.specs.Machine.{InRange, speed, top}
+use Rattle.gmf.specs.Machine.{InRange, speed, top, machine}
 use Rattle.gmf.specs.Jobs.{ifWithin, window, hyperperiod, hyperperiodLimit, work, works}
 use Rattle.gmf.specs.Capacity.{insert, sortDescending, largest, capacity, IsPlan, PassesFor}
 use Rattle.gmf.specs.Power.{Convex, total}
 use Rattle.gmf.specs.Claims.{Least}
 use Rattle.gmf.specs.Growing.{Growth, Grown, NoPlan, slowest, raise, demand, holds, raisesLeft, raiseWhileFails, step, steps, growing, planOf}
-use Rattle.gmf.specs.Trials.{machine, quarters, jobsFrom}
+use Rattle.gmf.specs.Trials.{quarters, jobsFrom}
 use Rattle.gmf.proofs.Results.{plans-jobs}
 use Rattle.workload.specs.declared.Verdict.{Verdict}
 use Rattle.workload.specs.declared.Verdict.the-variants.{SomePlan}

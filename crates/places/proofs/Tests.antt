@@ -2,19 +2,19 @@
 use Prim.Native.Nat.{ℕ, zero, suc, _≤_, _<_}
 use native.Mathlib.Omega.{arith}
 use mathlib.Core.Path.{_≡_, refl, ap, ap₂, _∙_}
-use mathlib.Core.Logic.{_↔_}
-use mathlib.Core.Bool.{true, _&&_}
+use mathlib.Core.Logic.{_↔_, inl, inr}
+use mathlib.Core.Bool.{Bool, true, false, false≢true, _&&_, _||_, or-true}
 use mathlib.Core.List.{List, [], _∷_}
-use borrow.Author.Tests.{leb-true, le-leb, ltb-true, lt-ltb, eqb-true}
+use borrow.Author.Tests.{leb-true, le-leb, ltb-true, lt-ltb, eqb-true, eq-eqb}
+use lib.Dec.{eqb}
 use lib.ListN.{length, replicate}
 use Rattle.gmf.specs.declared.Job.{Job}
-use Rattle.gmf.specs.Jobs.{JobInRange, ByRisingId, Every}
-use Rattle.gmf.specs.Trials.{job}
+use Rattle.gmf.specs.Jobs.{JobInRange, ByRisingId, Every, job}
 use Rattle.gmf.proofs.Sums.{both-true}
 use Rattle.gmf.proofs.Hyperperiod.{every-map}
 use Rattle.places.specs.Ranges.{oneTo, jobFits}
-use Rattle.places.specs.Places.{noJob, unused, listedAfter, listed}
-use Rattle.places.specs.Claims.{TestRule}
+use Rattle.places.specs.Places.{noJob, unused, listedAfter, listed, has}
+use Rattle.places.specs.Claims.{HasId, TestRule}
 
 -- ---- A number and a job
 
@@ -124,5 +124,22 @@ unused-pad (suc n) = unused-pad n
 places-rule : (places : List Job) → (unused places ≡ true) ↔ (places ≡ replicate (length places) noJob)
 places-rule places = (unused-told places, λ e. ap unused e ∙ unused-pad (length places))
 
+-- ---- An id among jobs
+
+has-told : (id : ℕ) (jobs : List Job) → has id jobs ≡ true → HasId id jobs
+unfolding has
+has-told id [] t = absurd (false≢true t)
+has-told id (job ∷ jobs) t = go (has-told id jobs) (eqb (job .id) id) refl t
+  where
+    go : (has id jobs ≡ true → HasId id jobs) → (b : Bool) → eqb (job .id) id ≡ b → b || has id jobs ≡ true → HasId id (job ∷ jobs)
+    go rest true e t = inl (eqb-true (job .id) id e)
+    go rest false e t = inr (rest t)
+
+told-has : (id : ℕ) (jobs : List Job) → HasId id jobs → has id jobs ≡ true
+unfolding has
+told-has id [] h = absurd h
+told-has id (job ∷ jobs) (inl e) = rw (eq-eqb (job .id) id e)
+told-has id (job ∷ jobs) (inr h) = rw (told-has id jobs h) (or-true (eqb (job .id) id))
+
 pub test-rule : TestRule
-test-rule = record { number = number-rule; one-job = job-rule; jobs = jobs-rule; places = places-rule }
+test-rule = record { number = number-rule; one-job = job-rule; jobs = jobs-rule; held = λ id jobs. (has-told id jobs, told-has id jobs); places = places-rule }

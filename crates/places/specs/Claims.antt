@@ -1,22 +1,27 @@
 -- What is proved of jobs in their places: `Placing` is all of it. Its proof is proofs/Results.antt.
 use Prim.Native.Nat.{ℕ, suc, _≤_, _<_}
 use mathlib.Core.Path.{_≡_}
-use mathlib.Core.Logic.{_↔_}
+use mathlib.Core.Logic.{_↔_, _⊎_}
 use mathlib.Core.Bool.{true, false, _&&_, _||_}
 use mathlib.Core.List.{List, [], _∷_, _++_, map}
 use lib.Dec.{eqb}
 use lib.ListN.{length, take, drop, getD, replicate}
 use Rattle.gmf.specs.declared.Job.{Job}
-use Rattle.gmf.specs.Jobs.{JobInRange, ByRisingId, Every}
-use Rattle.gmf.specs.Trials.{job}
+use Rattle.gmf.specs.Jobs.{JobInRange, ByRisingId, Every, job}
 use Rattle.places.specs.Ranges.{oneTo, jobFits}
 use Rattle.places.specs.Places.{noJob, placesOf, unused, listed, has, before, insert, remove}
 
--- The tests say what the statements of gmf say.
+-- A job with the id is one of a list.
+abbrev pub HasId : ℕ → List Job → Type 0
+HasId id [] = ⊥
+HasId id (job ∷ jobs) = (job .id ≡ id) ⊎ HasId id jobs
+
+-- The tests say what the statements of gmf say; and "New id: no job in the book has it."
 pub record TestRule : Type 0 where
   pub number : (n x : ℕ) → (oneTo n x ≡ true) ↔ ((1 ≤ x) × (x ≤ n))
   pub one-job : (id cost period : ℕ) → (jobFits id cost period ≡ true) ↔ JobInRange (job id cost period)
   pub jobs : (jobs : List Job) → (listed jobs ≡ true) ↔ (Every JobInRange jobs × ByRisingId jobs)
+  pub held : (id : ℕ) (jobs : List Job) → (has id jobs ≡ true) ↔ HasId id jobs
   pub places : (places : List Job) → (unused places ≡ true) ↔ (places ≡ replicate (length places) noJob)
 
 -- Where an id stands among jobs by rising id: at k when `before` says k.

@@ -6,7 +6,7 @@ use mathlib.Core.List.{List, [], _∷_, _++_}
 use lib.Dec.{eqb, ltb}
 use lib.ListN.{length, replicate}
 use Rattle.gmf.specs.declared.Job.{Job}
-use Rattle.gmf.specs.Trials.{job}
+use Rattle.gmf.specs.Jobs.{job}
 use Rattle.places.specs.Ranges.{jobFits}
 
 -- What an unused place holds.

@@ -1,12 +1,12 @@
 -- The known results, computed from the definitions.
 use mathlib.Core.Path.{refl}
 use Rattle.number.specs.Divisors.{euclid, gcd, lcm}
-use Rattle.gmf.specs.Machine.{speed, top}
+use Rattle.gmf.specs.Machine.{speed, top, machine}
 use Rattle.gmf.specs.Jobs.{window, hyperperiod, work, works}
 use Rattle.gmf.specs.Capacity.{insert, sortDescending, largest, capacity}
 use Rattle.gmf.specs.Growing.{slowest, raise, demand, holds, raisesLeft, raiseWhileFails, step, steps, growing, planOf}
 use Rattle.gmf.specs.Power.{rise, cube, tabulate, cubes, defaultTable}
-use Rattle.gmf.specs.Trials.{machine, jobsFrom}
+use Rattle.gmf.specs.Trials.{jobsFrom}
 use Rattle.places.specs.Ranges.{oneTo, jobFits}
 use Rattle.places.specs.Places.{placesOf, unused, listedAfter, listed, has, remove}
 use Rattle.places.specs.Places as places

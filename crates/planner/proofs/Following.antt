@@ -8,8 +8,7 @@ use borrow.Author.Tests.{eq-eqb, lt-leb}
 use lib.ListN.{length}
 use Rattle.gmf.specs.declared.Machine.{Machine}
 use Rattle.gmf.specs.declared.Job.{Job}
-use Rattle.gmf.specs.Jobs.{hyperperiod, works}
-use Rattle.gmf.specs.Trials.{job}
+use Rattle.gmf.specs.Jobs.{hyperperiod, works, job}
 use Rattle.gmf.specs.Claims.{Feasible, NonePasses}
 use Rattle.places.specs.Places.{insert}
 use Rattle.places.proofs.Results.{placing}

@@ -12,10 +12,9 @@ use lib.ListN.{length, take, drop, replicate, take-append-drop, length-drop, len
 use lib.Seq.{length-take-le, take-append-seam, drop-append-seam}
 use Rattle.gmf.specs.declared.Machine.{Machine}
 use Rattle.gmf.specs.declared.Job.{Job}
-use Rattle.gmf.specs.Machine.{InRange}
+use Rattle.gmf.specs.Machine.{InRange, machine}
 use Rattle.gmf.specs.Jobs.{JobInRange, ByRisingId, Every}
 use Rattle.gmf.specs.Power.{IsTable}
-use Rattle.gmf.specs.Trials.{machine}
 use Rattle.places.specs.Ranges.{oneTo}
 use Rattle.places.specs.Places.{noJob, placesOf, unused, listed}
 use Rattle.places.proofs.Results.{placing}

@@ -9,10 +9,9 @@ use lib.ListN.{length, take, drop, replicate, take-append-drop, length-append, l
 use lib.Seq.{length-take-le, take-all}
 use Rattle.gmf.specs.declared.Machine.{Machine}
 use Rattle.gmf.specs.declared.Job.{Job}
-use Rattle.gmf.specs.Machine.{InRange}
-use Rattle.gmf.specs.Jobs.{JobInRange, hyperperiod, hyperperiodLimit}
+use Rattle.gmf.specs.Machine.{InRange, machine}
+use Rattle.gmf.specs.Jobs.{JobInRange, hyperperiod, hyperperiodLimit, job}
 use Rattle.gmf.specs.Power.{defaultTable}
-use Rattle.gmf.specs.Trials.{machine, job}
 use Rattle.places.specs.Places.{noJob, placesOf, listed, has, before, insert, remove}
 use Rattle.places.proofs.Results.{placing}
 use Rattle.power_tables.specs.Entries.{entriesOf}

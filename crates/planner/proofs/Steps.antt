@@ -10,9 +10,8 @@ use lib.Dec.{eqb}
 use lib.ListN.{length}
 use Rattle.gmf.specs.declared.Machine.{Machine}
 use Rattle.gmf.specs.declared.Job.{Job}
-use Rattle.gmf.specs.Machine.{InRange, speed, top}
-use Rattle.gmf.specs.Jobs.{JobInRange, Every, hyperperiod, works}
-use Rattle.gmf.specs.Trials.{machine, job}
+use Rattle.gmf.specs.Machine.{InRange, speed, top, machine}
+use Rattle.gmf.specs.Jobs.{JobInRange, Every, hyperperiod, works, job}
 use Rattle.gmf.specs.Claims.{Feasible}
 use Rattle.gmf.proofs.Hyperperiod.{in-range-positive}
 use Rattle.gmf.proofs.Results.{method}

@@ -10,12 +10,11 @@ use lib.Dec.{leb, eqb}
 use lib.ListN.{length}
 use Rattle.gmf.specs.declared.Machine.{Machine}
 use Rattle.gmf.specs.declared.Job.{Job}
-use Rattle.gmf.specs.Machine.{InRange, speed, top}
+use Rattle.gmf.specs.Machine.{InRange, speed, top, machine}
 use Rattle.gmf.specs.Jobs.{hyperperiod, hyperperiodLimit, works}
 use Rattle.gmf.specs.Growing.{Growth, Grown, planOf}
 use Rattle.gmf.specs.Growing as gmf
 use Rattle.gmf.specs.Power.{power, rise, powerLimit, IsTable}
-use Rattle.gmf.specs.Trials.{machine}
 use Rattle.gmf.specs.Claims.{NonePasses}
 use Rattle.gmf.proofs.Sums.{both-true, below-suc}
 use Rattle.gmf.proofs.Results.{plans-jobs}

@@ -7,10 +7,10 @@ use mathlib.Core.List.{List, [], _∷_, map}
 use lib.ListN.{length, take, drop, replicate}
 use Rattle.gmf.specs.declared.Machine.{Machine}
 use Rattle.gmf.specs.declared.Job.{Job}
-use Rattle.gmf.specs.Machine.{InRange}
-use Rattle.gmf.specs.Jobs.{JobInRange, ByRisingId, Every, hyperperiod, hyperperiodLimit, works}
+use Rattle.gmf.specs.Machine.{InRange, machine}
+use Rattle.gmf.specs.Jobs.{JobInRange, ByRisingId, Every, hyperperiod, hyperperiodLimit, works, job}
 use Rattle.gmf.specs.Power.{IsTable}
-use Rattle.gmf.specs.Trials.{machine, job, jobsFrom}
+use Rattle.gmf.specs.Trials.{jobsFrom}
 use Rattle.gmf.specs.Claims.{Feasible, NonePasses}
 use Rattle.places.specs.Ranges.{oneTo}
 use Rattle.places.specs.Places.{noJob, placesOf, has, insert}

@@ -2,7 +2,7 @@
 use mathlib.Core.Bool.{Bool, true, false, not, _&&_, _||_}
 use lib.Dec.{leb, eqb}
 use lib.ListN.{length, take, drop, replicate}
-use Rattle.gmf.specs.Trials.{machine}
+use Rattle.gmf.specs.Machine.{machine}
 use Rattle.places.specs.Ranges.{oneTo}
 use Rattle.places.specs.Places.{noJob, placesOf, unused, listed}
 use Rattle.power_tables.specs.Entries.{entriesOf, zeros}

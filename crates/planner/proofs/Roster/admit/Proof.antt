@@ -5,8 +5,7 @@ use mathlib.Core.Bool.{true}
 use borrow.Author.Needs.{needs}
 use borrow.Author.Tests.{not-true, not-false}
 use lib.ListN.{length, take, length-map}
-use Rattle.gmf.specs.Jobs.{JobInRange}
-use Rattle.gmf.specs.Trials.{job}
+use Rattle.gmf.specs.Jobs.{JobInRange, job}
 use Rattle.places.specs.Ranges.{jobFits}
 use Rattle.places.proofs.Results.{placing}
 use Rattle.workload.specs.Load.{totals}

@@ -1,6 +1,6 @@
 -- `planner::Roster::empty` meets its contract.
 use mathlib.Core.Path.{refl}
-use Rattle.gmf.specs.Trials.{machine}
+use Rattle.gmf.specs.Machine.{machine}
 use Rattle.planner.specs.Roster.{emptyRoster}
 use Rattle.planner.proofs.Roster.empty.Statement.{statement}
 use Rattle.planner.proofs.Roster.empty.Tie as tie

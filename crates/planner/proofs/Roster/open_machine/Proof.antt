@@ -5,8 +5,7 @@ use mathlib.Core.Bool.{true}
 use borrow.Author.Needs.{needs}
 use borrow.Author.Tests.{not-true, not-false}
 use lib.ListN.{length, length-map}
-use Rattle.gmf.specs.Trials.{machine}
-use Rattle.gmf.specs.Machine.{InRange}
+use Rattle.gmf.specs.Machine.{InRange, machine}
 use Rattle.places.specs.Ranges.{oneTo}
 use Rattle.planner.specs.Tests.{speedsFit}
 use Rattle.planner.proofs.TestRules.{machine-range}
