@@ -11,7 +11,8 @@ use Rattle.places.specs.Ranges.{oneTo, jobFits}
 use Rattle.places.specs.Places.{placesOf, unused, listedAfter, listed, has, remove}
 use Rattle.places.specs.Places as places
 use Rattle.power_tables.specs.Entries.{entriesOf, zeros}
-use Rattle.planner.specs.Tests.{speedsFit, allBelow, isTable, tooLong, foundNone, noPlan}
+use Rattle.power_tables.specs.Tables.{allBelow, isTable}
+use Rattle.planner.specs.Tests.{speedsFit, tooLong, foundNone, noPlan}
 use Rattle.planner.specs.Model.{refuseIf, isOpen, onMachine, opened, weighed, admitted, retired}
 use Rattle.planner.specs.Model as model
 use Rattle.planner.specs.Roster.{emptyRoster, modelOf, rosterOf, inShape, sound, allZero, wellFormed, replied, replyTo}

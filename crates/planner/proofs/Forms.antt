@@ -22,11 +22,13 @@ use Rattle.power_tables.specs.Entries.{entriesOf, zeros}
 use Rattle.power_tables.proofs.Entries.{zeros-is, is-zeros}
 use Rattle.planner.specs.declared.Roster.{Roster}
 use Rattle.planner.specs.Model.{Model, Closed, Opened}
-use Rattle.planner.specs.Tests.{speedsFit, isTable, tooLong, noPlan}
+use Rattle.power_tables.specs.Tables.{isTable}
+use Rattle.planner.specs.Tests.{speedsFit, tooLong, noPlan}
 use Rattle.planner.specs.Roster.{emptyRoster, modelOf, rosterOf, inShape, allZero, sound, wellFormed}
 use Rattle.planner.specs.Claims.{Rules, IsSound, FormRule, Forms}
 use Rattle.gmf.proofs.Sums.{both-true}
-use Rattle.planner.proofs.TestRules.{machine-range, range-processors, range-speeds, is-table, table-is}
+use Rattle.power_tables.proofs.Results.{table-laws}
+use Rattle.planner.proofs.TestRules.{machine-range, range-processors, range-speeds}
 use Rattle.planner.proofs.Passing.{not-long, long-not, plan-passes, passes-plan}
 
 -- ---- Unused places
@@ -138,7 +140,7 @@ module _ (r : Roster) (entries : length (r .table) ≡ 32) (places : length (r .
       let by = placing .tests .jobs held-jobs .0 (y .1) in
       record {
         machine-range = machine-range (M .processors) (M .levels) (M .lowest) (M .step) (u .0) (u .1);
-        table-rules = is-table M numbers (v .1);
+        table-rules = table-laws .tests M numbers .0 (v .1);
         entries-after = w .1;
         few = leb-true (r .held) 64 (x .1);
         job-ranges = by .0;
@@ -181,7 +183,7 @@ module _ (r : Roster) (entries : length (r .table) ≡ 32) (places : length (r .
       (ap₂ _&&_
       (ap₂ _&&_ (range-processors (M .processors) (M .levels) (M .lowest) (M .step) (k .machine-range))
       (range-speeds (M .processors) (M .levels) (M .lowest) (M .step) (k .machine-range)))
-      (table-is M numbers (k .table-rules)))
+      (table-laws .tests M numbers .1 (k .table-rules)))
       (ap zeros (s .unused-entries) ∙ is-zeros (32 - M .levels)))
       (le-leb (r .held) 64 (s .places)))
       (rules-listed M numbers held-jobs k))
@@ -248,9 +250,7 @@ module _ (M : Machine) (table : List ℕ) (jobs : List Job) (rules : Rules M tab
   size = rules .table-rules .size
 
   entries-count : length (entriesOf table) ≡ 32
-  unfolding entriesOf
-  entries-count =
-      omega (arith, length-append table (replicate (32 - length table) 0), length-replicate {A = ℕ} (32 - length table) 0, size, rules .machine-range .levels)
+  entries-count = table-laws .entries table (omega (arith, size, rules .machine-range .levels))
 
   places-count : length (placesOf jobs) ≡ 64
   unfolding placesOf

@@ -5,7 +5,7 @@ use mathlib.Core.Path.{_≡_, refl, sym, ap, ap₂, _∙_}
 use mathlib.Core.Bool.{Bool, true, false}
 use mathlib.Core.List.{List, [], _∷_, _++_}
 use borrow.Author.Tests.{lt-ltb}
-use lib.ListN.{length, take, drop, replicate, take-append-drop, length-append, length-replicate}
+use lib.ListN.{length, take, drop, replicate, take-append-drop}
 use lib.Seq.{length-take-le, take-all}
 use Rattle.gmf.specs.declared.Machine.{Machine}
 use Rattle.gmf.specs.declared.Job.{Job}
@@ -15,6 +15,7 @@ use Rattle.gmf.specs.Power.{defaultTable}
 use Rattle.places.specs.Places.{noJob, placesOf, listed, has, before, insert, remove}
 use Rattle.places.proofs.Results.{placing}
 use Rattle.power_tables.specs.Entries.{entriesOf}
+use Rattle.power_tables.proofs.Results.{table-laws}
 use Rattle.workload.specs.declared.Totals.{Totals}
 use Rattle.workload.specs.declared.Load.{Load}
 use Rattle.workload.specs.declared.Load.the-variants.{Within}
@@ -31,7 +32,8 @@ use Rattle.planner.specs.declared.Condition.{Condition}
 use Rattle.planner.specs.declared.Condition.the-variants as condition
 use Rattle.planner.specs.declared.Refusal.{Refusal}
 use Rattle.planner.specs.declared.Refusal.the-variants.{Damaged, NoMachine, MachineOpen, IdHeld, IdNotHeld, PlacesFull, HyperperiodTooLong, NoPlan}
-use Rattle.planner.specs.Tests.{isTable, tooLong}
+use Rattle.power_tables.specs.Tables.{isTable}
+use Rattle.planner.specs.Tests.{tooLong}
 use Rattle.planner.specs.Model.{
   Model,
   Closed,
@@ -213,16 +215,10 @@ module _ (r : Roster) (entries : length (r .table) ≡ 32) (places : length (r .
     pub reply-table : (values new : List ℕ) → isTable M values ≡ true → length values ≡ M .levels → new ≡ take 32 (entriesOf values)
         → record { answer = Accepted; roster = record { machine = M; table = new; held = r .held; jobs = r .jobs } }
         ≡ replied r (accepted (Opened M values jobs))
-    unfolding replied rosterOf entriesOf
+    unfolding replied rosterOf
     reply-table values new t size e =
-        let whole : length (values ++ replicate {A = ℕ} (32 - length values) 0) ≤ 32 =
-        omega (
-          arith,
-          length-append values (replicate (32 - length values) 0),
-          length-replicate {A = ℕ} (32 - length values) 0,
-          s .rules .machine-range .levels,
-        )
-        in same-fields M new _ (r .held) _ (r .jobs) _ (e ∙ take-all 32 _ whole) (sym held-count) places-carried
+        let whole = table-laws .entries values (omega (arith, s .rules .machine-range .levels)) in
+        same-fields M new _ (r .held) _ (r .jobs) _ (e ∙ take-all 32 (entriesOf values) (omega (arith, whole))) (sym held-count) places-carried
 
     -- ---- A job comes
 

@@ -2,24 +2,20 @@
 use Prim.Native.Nat.{ℕ, _+_, _-_, _*_, _≤_}
 use native.Mathlib.Nat.{mul-le-mul}
 use native.Mathlib.Omega.{arith}
-use mathlib.Core.Path.{_≡_, refl, sym, ap, _∙_}
-use mathlib.Core.Logic.{_↔_}
+use mathlib.Core.Path.{_≡_, ap, _∙_}
 use mathlib.Core.Bool.{Bool, true, false, false≢true, _&&_}
-use mathlib.Core.List.{List}
 use borrow.Author.Tests.{eq-eqb, ne-eqb}
 use lib.Dec.{leb}
 use lib.ListN.{take, drop}
-use Rattle.gmf.specs.declared.Machine.{Machine}
-use Rattle.gmf.specs.Power.{IsTable}
 use Rattle.places.specs.Ranges.{oneTo}
 use Rattle.places.specs.Places.{unused, listed}
 use Rattle.power_tables.specs.Entries.{zeros}
 use Rattle.planner.specs.declared.Roster.{Roster}
-use Rattle.planner.specs.Tests.{speedsFit, isTable}
+use Rattle.power_tables.specs.Tables.{isTable}
+use Rattle.planner.specs.Tests.{speedsFit}
 use Rattle.planner.specs.Roster.{inShape, allZero}
 use Rattle.gmf.proofs.Sums.{both-true}
 use Rattle.places.proofs.Results.{placing}
-use Rattle.planner.proofs.TestRules.{is-table, table-is}
 
 -- ---- Speeds
 
@@ -55,16 +51,6 @@ pub speeds-levels : (L b d : ℕ) → speedsFit L b d ≡ true → L ≤ 32
 unfolding speedsFit
 speeds-levels L b d e =
     placing .tests .number 32 L .0 (both-true _ (oneTo 256 b) (both-true _ (oneTo 255 d) (both-true _ (leb (b + (L - 1) * d) 256) e .0) .0) .0) .1
-
--- ---- A table that the code accepts
-
-pub accepted-table : (M : Machine) (table : List ℕ) (b : Bool) → (b ≡ true) ↔ IsTable M table → b ≡ isTable M table
-accepted-table M table true h = sym (table-is M table (h .0 refl))
-accepted-table M table false h = go (isTable M table) refl
-  where
-    go : (t : Bool) → isTable M table ≡ t → false ≡ t
-    go true e = h .1 (is-table M table e)
-    go false e = refl
 
 -- ---- The empty roster
 

@@ -18,11 +18,13 @@ use Rattle.gmf.proofs.Results.{method}
 use Rattle.places.specs.Places.{has, insert, remove}
 use Rattle.places.proofs.Results.{placing}
 use Rattle.planner.specs.declared.Refusal.{Refusal}
-use Rattle.planner.specs.Tests.{isTable, tooLong, noPlan}
+use Rattle.power_tables.specs.Tables.{isTable}
+use Rattle.planner.specs.Tests.{tooLong, noPlan}
 use Rattle.planner.specs.Model.{Model, Closed, Opened, Call, OpenMachine, ReplaceTable, Admit, Retire, Outcome, refused, accepted, refuseIf, onMachine, opened, weighed, admitted, retired, step}
 use Rattle.planner.specs.Calls.{refusalNumber, after}
 use Rattle.planner.specs.Claims.{Rules}
-use Rattle.planner.proofs.TestRules.{machine-range, is-table}
+use Rattle.power_tables.proofs.Results.{table-laws}
+use Rattle.planner.proofs.TestRules.{machine-range}
 use Rattle.planner.proofs.Passing.{not-long, plan-passes}
 use Rattle.planner.proofs.Forms.{rules-listed, Kept}
 
@@ -74,7 +76,7 @@ module _ (M : Machine) (table : List ℕ) (jobs : List Job) (rules : Rules M tab
   replaces numbers e = (
     record {
       machine-range = rules .machine-range;
-      table-rules = is-table M numbers e;
+      table-rules = table-laws .tests M numbers .0 e;
       job-ranges = rules .job-ranges;
       by-id = rules .by-id;
       within-limit = rules .within-limit;

@@ -31,7 +31,7 @@ use Rattle.planner.specs.declared.Refusal.the-variants.{
   NoPlan,
 }
 use Rattle.planner.specs.declared.Answer.the-variants.{Accepted, Refused}
-use Rattle.planner.specs.Tests.{speedsFit, isTable, tooLong, noPlan}
+use Rattle.planner.specs.Tests.{speedsFit, tooLong, noPlan}
 use Rattle.planner.specs.Model.{Closed, Opened, Call, OpenMachine, ReplaceTable, Admit, Retire, step}
 use Rattle.planner.specs.Roster.{emptyRoster, modelOf, rosterOf, wellFormed, replyTo}
 use Rattle.planner.specs.Calls.{numberOf, outcomeNumber, modelNumbers, modelAfter, replyNumbers, rosterAfter}
@@ -41,8 +41,6 @@ use Rattle.planner.specs.Calls.{numberOf, outcomeNumber, modelNumbers, m
 pub record TestRule : Type 0 where
   -- 1 and 2: the ranges of a machine.
   pub machines : (m L b d : ℕ) → (oneTo 32 m && speedsFit L b d ≡ true) ↔ InRange (machine m L b d)
-  -- 3: a power table.
-  pub tables : (M : Machine) (table : List ℕ) → (isTable M table ≡ true) ↔ IsTable M table
   -- 16: the hyperperiod is above its limit.
   pub limits : (jobs : List Job) → (tooLong jobs ≡ true) ↔ (hyperperiodLimit < hyperperiod jobs)
   -- 17: no plan passes.

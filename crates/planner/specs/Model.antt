@@ -25,7 +25,8 @@ use Rattle.planner.specs.declared.Refusal.the-variants.{
   HyperperiodTooLong,
   NoPlan,
 }
-use Rattle.planner.specs.Tests.{speedsFit, isTable, tooLong, noPlan}
+use Rattle.power_tables.specs.Tables.{isTable}
+use Rattle.planner.specs.Tests.{speedsFit, tooLong, noPlan}
 
 -- "It has a machine or none, a table and jobs by rising id. It begins with none of them."
 pub data Model : Type 0 where

@@ -13,7 +13,8 @@ use Rattle.planner.specs.declared.Condition.the-variants as condition
 use Rattle.planner.specs.declared.Refusal.the-variants.{Damaged}
 use Rattle.planner.specs.declared.Answer.the-variants.{Accepted, Refused}
 use Rattle.planner.specs.declared.Reply.{Reply}
-use Rattle.planner.specs.Tests.{speedsFit, isTable, tooLong, noPlan}
+use Rattle.power_tables.specs.Tables.{isTable}
+use Rattle.planner.specs.Tests.{speedsFit, tooLong, noPlan}
 use Rattle.planner.specs.Model.{Model, Closed, Opened, Call, Outcome, refused, accepted, step}
 
 -- "A list starts from the roster of all zeros."

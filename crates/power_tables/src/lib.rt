@@ -1,13 +1,12 @@
 // Power tables of a machine (01, "Power"): the default table, the check of a lent one, its 32 entries, and the total power of a plan. The
 // definitions are in specs/ and in gmf's specs/.
 ghost use mathlib.Core.Path.{_≡_};
-ghost use mathlib.Core.Logic.{_↔_};
-ghost use mathlib.Core.Bool.{true};
 ghost use Prim.Native.Nat.{ℕ, _≤_, _<_};
 ghost use lib.ListN.{take};
 ghost use Rattle.gmf.specs.Machine.{InRange};
 ghost use Rattle.gmf.specs.Capacity.{level};
-ghost use Rattle.gmf.specs.Power.{power, powerLimit, IsTable, total, defaultTable};
+ghost use Rattle.gmf.specs.Power.{power, powerLimit, total, defaultTable};
+ghost use Rattle.power_tables.specs.Tables.{isTable};
 ghost use Rattle.power_tables.specs.Entries.{entriesOf, zeros};
 use gmf::Machine;
 
@@ -40,7 +39,7 @@ pub fn default_table(machine: Machine) -> [u32; 32]
 // Whether a lent list of numbers is a power table for the machine. A table that never falls is within its limit where its last
 // number is.
 pub fn accepts(machine: Machine, table: &[u32]) -> bool
-    ensures { λ r. ⌜ (r ≡ true) ↔ IsTable machine (now (table .entry)) ⌝ }
+    ensures { λ r. ⌜ r ≡ isTable machine (now (table .entry)) ⌝ }
 {
     let size = table.len();
     if size != machine.levels as usize {

@@ -8,10 +8,11 @@ use borrow.Author.Tests.{not-true, not-false}
 use lib.ListN.{length, take, drop, length-drop}
 use lib.Seq.{length-take-le, take-all}
 use Rattle.places.specs.Ranges.{oneTo}
-use Rattle.planner.specs.Tests.{speedsFit, isTable}
+use Rattle.power_tables.specs.Tables.{isTable}
+use Rattle.planner.specs.Tests.{speedsFit}
 use Rattle.power_tables.specs.Entries.{zeros}
 use Rattle.planner.specs.declared.Roster.{Roster}
-use Rattle.planner.proofs.Shapes.{accepted-table, speeds-levels, shape-1, shape-2, shape-3, shape-4, shape-5, shape-6}
+use Rattle.planner.proofs.Shapes.{speeds-levels, shape-1, shape-2, shape-3, shape-4, shape-5, shape-6}
 use Rattle.planner.proofs.Roster.in_shape.Statement.{statement}
 use Rattle.planner.proofs.Roster.in_shape.Tie as tie
 
@@ -44,7 +45,7 @@ abbrev at-3 : tie.Else3 → tie.Else2
 at-3 c = c .before .before .before .before
 
 tabled : (c : tie.Else3) → isTable (held-by (at-2 (at-3 c)) .machine) (take (held-by (at-2 (at-3 c)) .machine .levels) (held-by (at-2 (at-3 c)) .table)) ≡ true
-tabled c = sym (accepted-table _ _ _ (c .before .accepts .ensures)) ∙ not-false _ (c .if3 .left)
+tabled c = sym (c .before .accepts .ensures) ∙ not-false _ (c .if3 .left)
 
 -- What is after the numbers in force.
 rest : (c : tie.After-all-zero) → c .all-zero .result ≡ zeros (drop (held-by (at-2 (at-3 (c .before .before .before))) .machine .levels) (held-by (at-2 (at-3 (c .before .before .before))) .table))
@@ -102,7 +103,7 @@ accepts-requires c κs = search needs
 returns-3 : tie.Need-returns-3
 returns-3 c =
     let e = c .before .before .before .before in
-    shape-3 _ (counted (at-1 e)) (fitting e) (sym (accepted-table _ _ _ (c .before .accepts .ensures)) ∙ not-true _ (c .if3 .taken))
+    shape-3 _ (counted (at-1 e)) (fitting e) (sym (c .before .accepts .ensures) ∙ not-true _ (c .if3 .taken))
 
 mul-all-zero : tie.Need-mul-all-zero
 mul-all-zero c = search needs

@@ -4,8 +4,7 @@ use borrow.Author.Needs.{needs}
 use borrow.Author.Tests.{not-true, not-false}
 use lib.ListN.{length, length-map}
 use Rattle.planner.specs.Claims.{IsSound}
-use Rattle.planner.proofs.TestRules.{is-table}
-use Rattle.planner.proofs.Shapes.{accepted-table}
+use Rattle.power_tables.proofs.Results.{table-laws}
 use Rattle.planner.proofs.Outcomes.{table-3, table-0}
 use Rattle.planner.specs.declared.Refusal.the-variants.{Damaged, NoMachine, PowerTable}
 use Rattle.planner.proofs.Replies.{refused-by, is-open, reply-damaged, reply-open, reply-table, table-11}
@@ -54,7 +53,7 @@ returns c =
     let s = t .before .before .before .before in
     refused-by (s .args .self) PowerTable (c .refuse3 .ensures) refl refl
     (reply-open _ (entries s) (places s) (open-at t) _ _
-    (table-3 _ _ _ _ (sym (accepted-table _ _ _ (a .accepts .ensures)) ∙ not-true _ (c .before .if1 .taken))))
+    (table-3 _ _ _ _ (sym (a .accepts .ensures) ∙ not-true _ (c .before .if1 .taken))))
 
 entries-of-requires : tie.Need-entries-of-requires
 entries-of-requires c κs = search needs
@@ -78,8 +77,8 @@ returns-4 c =
     let a = c .before in
     let t = a .before .before .before in
     let s = t .before .before .before .before in
-    let ok = sym (accepted-table _ _ _ (a .accepts .ensures)) ∙ not-false _ (c .if1 .left) in
-    reply-table _ (entries s) (places s) (open-at t) _ _ ok (is-table _ _ ok .size) (a .before .entries-of .ensures)
+    let ok = sym (a .accepts .ensures) ∙ not-false _ (c .if1 .left) in
+    reply-table _ (entries s) (places s) (open-at t) _ _ ok (table-laws .tests _ _ .0 ok .size) (a .before .entries-of .ensures)
     ∙ reply-open _ (entries s) (places s) (open-at t) _ _ (table-0 _ _ _ _ ok)
 
 pub replace-table-spec : {M : Type 1} → statement M
