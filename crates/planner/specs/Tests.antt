@@ -1,5 +1,5 @@
--- What the refusals ask, as tests. Those of one number and of jobs are in the crate places, and that of a table in power_tables; that each
--- says what 01 says is `TestRule` (Claims) there and here.
+-- What the refusals ask, as tests. Those of one number and of jobs are in the crate places, and that of a table in power_tables. That each
+-- says what 01 says is `TestRule` in places and here, and `TableLaws` in power_tables.
 use Prim.Native.Nat.{ℕ, _-_, _+_, _*_}
 use mathlib.Core.Bool.{Bool, true, false, _&&_}
 use mathlib.Core.List.{List}
