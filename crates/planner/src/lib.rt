@@ -185,16 +185,12 @@ impl Roster {
         }
     }
 
-    // Whether every field is 0.
+    // Whether every field is 0, as its processors are.
     fn is_zero(self) -> bool
+        requires { ⌜ self .machine .processors ≡ 0 ⌝ }
         ensures { λ r. ⌜ r ≡ allZero self ⌝ }
     {
         let machine = self.machine;
-        let table = self.table;
-        let jobs = self.jobs;
-        if machine.processors != 0 {
-            return false;
-        }
         if machine.levels != 0 {
             return false;
         }
@@ -207,9 +203,11 @@ impl Roster {
         if self.held != 0 {
             return false;
         }
+        let table = self.table;
         if !all_zero(&table) {
             return false;
         }
+        let jobs = self.jobs;
         unused_from(jobs, 0)
     }
 
@@ -248,8 +246,11 @@ impl Roster {
     pub fn inspect(self) -> Condition
         ensures { λ r. ⌜ r ≡ inspected self ⌝ }
     {
-        if self.is_zero() {
-            return Condition::Closed;
+        if self.machine.processors == 0 {
+            if self.is_zero() {
+                return Condition::Closed;
+            }
+            return Condition::Damaged;
         }
         if !self.in_shape() {
             return Condition::Damaged;
