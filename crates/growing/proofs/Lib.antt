@@ -2,5 +2,4 @@ pub mod Levels
 pub mod Raises
 pub mod Works
 pub mod Loops
-pub mod Plans
 pub mod Results

@@ -4,22 +4,21 @@ use mathlib.Core.List.{List, _++_}
 use lib.ListN.{length, replicate}
 use Rattle.gmf.specs.declared.Machine.{Machine}
 use Rattle.gmf.specs.declared.Job.{Job}
-use Rattle.gmf.specs.Jobs.{ifWithin, hyperperiod}
+use Rattle.gmf.specs.Jobs.{hyperperiod}
 use Rattle.gmf.specs.Growing.{Growth, Grown, NoPlan, planOf}
-use Rattle.workload.specs.declared.Verdict.{Verdict}
 use Rattle.workload.specs.declared.Verdict.the-variants as verdict
 use Rattle.growing.specs.declared.Plan.{Plan}
 
--- No plan, for one reason or the other: zeros.
-unfoldable pub withoutPlan : Verdict → Plan
-withoutPlan v = record { verdict = v; hyperperiod = 0; raises = 0; levels = replicate 32 0 }
+-- No plan passes: zeros.
+unfoldable pub withoutPlan : Plan
+withoutPlan = record { verdict = verdict.NoPlan; hyperperiod = 0; raises = 0; levels = replicate 32 0 }
 
 -- What growing finds in H ticks: m levels, with zeros after them to 32, and the count of raises.
 unfoldable pub planFrom : ℕ → Growth → Plan
 planFrom H (Grown plan raises) =
     record { verdict = verdict.SomePlan; hyperperiod = H; raises = raises; levels = plan ++ replicate (32 - length plan) 0 }
-planFrom H NoPlan = withoutPlan verdict.NoPlan
+planFrom H NoPlan = withoutPlan
 
--- The plan that a machine gives its jobs. Refusal 16 is a hyperperiod above its limit, refusal 17 that no plan passes.
-unfoldable pub planned : Machine → List Job → Plan
-planned M jobs = ifWithin (hyperperiod jobs) (planFrom (hyperperiod jobs) (planOf M jobs)) (withoutPlan verdict.TooLong)
+-- The plan that a machine gives its jobs.
+abbrev pub planned : Machine → List Job → Plan
+planned M jobs = planFrom (hyperperiod jobs) (planOf M jobs)

@@ -4,17 +4,14 @@ ghost use Prim.Native.Nat.{_≤_, min};
 ghost use lib.ListN.{take};
 ghost use Rattle.gmf.specs.Machine.{InRange};
 ghost use Rattle.gmf.specs.Jobs.{JobInRange, ByRisingId, Every, hyperperiod, hyperperiodLimit, work};
-ghost use Rattle.gmf.specs.Growing.{planOf};
 ghost use Rattle.workload.specs.Load.{totals};
-ghost use Rattle.growing.specs.Plan.{planFrom, planned, withoutPlan};
+ghost use Rattle.growing.specs.Plan.{planned, withoutPlan};
 use gmf::Job;
 use gmf::Machine;
 use selection::next_job;
 use selection::none_taken;
-use workload::Load;
 use workload::Totals;
 use workload::Verdict;
-use workload::load_of;
 
 // A level for each processor, and zeros after the last; the count of raises; the hyperperiod. All zeros where there is no plan.
 pub struct Plan {
@@ -24,12 +21,12 @@ pub struct Plan {
     pub levels: [u8; 32],
 }
 
-// No plan, and why.
-fn no_plan(verdict: Verdict) -> Plan
-    ensures { λ r. ⌜ r ≡ withoutPlan verdict ⌝ }
+// No plan passes.
+fn no_plan() -> Plan
+    ensures { λ r. ⌜ r ≡ withoutPlan ⌝ }
 {
     Plan {
-        verdict,
+        verdict: Verdict::NoPlan,
         hyperperiod: 0,
         raises: 0,
         levels: [0u8; 32],
@@ -55,12 +52,12 @@ fn work_of(job: Job, hyperperiod: u32) -> u64
     job.cost as u64 * (hyperperiod / job.window() as u32) as u64
 }
 
-// Grows the plan: step by step one processor more joins, and the slowest of those that have joined is raised while the test fails. Both
+// Grows the plan of the first `held` jobs, whose totals are at hand: step by step one processor more joins, and the slowest of those that have joined is raised while the test fails. Both
 // sides of a test stand multiplied by H × Q, as in the definition.
-fn grow(machine: Machine, jobs: [Job; 64], held: usize, all: Totals) -> Plan
+pub fn grow(machine: Machine, jobs: [Job; 64], held: usize, all: Totals) -> Plan
     requires { ⌜ InRange machine × (held ≤ 64) × Every JobInRange (take held jobs) × ByRisingId (take held jobs) ⌝ }
     requires { ⌜ (hyperperiod (take held jobs) ≤ hyperperiodLimit) × (all ≡ totals (take held jobs)) ⌝ }
-    ensures { λ r. ⌜ r ≡ planFrom (hyperperiod (take held jobs)) (planOf machine (take held jobs)) ⌝ }
+    ensures { λ r. ⌜ r ≡ planned machine (take held jobs) ⌝ }
 {
     let hyperperiod = all.hyperperiod;
     let top_level = machine.levels - 1;
@@ -114,24 +111,12 @@ fn grow(machine: Machine, jobs: [Job; 64], held: usize, all: Totals) -> Plan
         }
     }
     if !found {
-        return no_plan(Verdict::NoPlan);
+        return no_plan();
     }
     Plan {
         verdict: Verdict::SomePlan,
         hyperperiod,
         raises,
         levels,
-    }
-}
-
-// The plan that the machine gives the first `held` jobs.
-pub fn plan_of(machine: Machine, jobs: [Job; 64], held: usize) -> Plan
-    requires { ⌜ InRange machine × (held ≤ 64) × Every JobInRange (take held jobs) × ByRisingId (take held jobs) ⌝ }
-    ensures { λ r. ⌜ r ≡ planned machine (take held jobs) ⌝ }
-{
-    let load = load_of(jobs, held);
-    match load {
-        Load::Within(all) => grow(machine, jobs, held, all),
-        Load::TooLong => no_plan(Verdict::TooLong),
     }
 }

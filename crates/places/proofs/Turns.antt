@@ -1,14 +1,17 @@
 -- The loops over the places: what each keeps, its start, one turn and its end. A new value has an equation of its own.
-use Prim.Native.Nat.{ℕ, suc, _+_, _≤_, _<_}
+use Prim.Native.Nat.{ℕ, suc, _+_, _*_, _≤_, _<_, min}
+use native.Mathlib.Nat.{zero-add}
 use native.Mathlib.Numerals.{add-one}
+use native.Mathlib.Decide.{decLt, ℕ-discrete}
 use native.Mathlib.Omega.{arith}
-use mathlib.Core.Path.{_≡_, sym, ap, _∙_}
-use mathlib.Core.Bool.{Bool, true, false, _&&_, and-false}
-use mathlib.Core.List.{List, [], _∷_, _++_, append-nil}
-use borrow.Author.Tests.{lt-leb, le-leb, lt-ltb, le-ltb, eq-eqb, ne-eqb}
-use lib.Dec.{leb}
-use lib.ListN.{length, take, drop, getD, set, drop-of-length-le, length-take, length-set}
-use lib.Seq.{drop-cons, slice, slice-cons, take-suc-set, drop-set-lt, append-snoc, take-all, take-append-le, set-split}
+use mathlib.Core.Path.{_≡_, refl, sym, _∙_}
+use mathlib.Core.Bool.{Bool, true, false, _&&_, and-true, and-false, and-assoc}
+use mathlib.Core.List.{List, [], _∷_, _++_, append-nil, append-assoc}
+use borrow.Author.Tests.{lt-leb, le-leb, lt-ltb, le-ltb, ne-eqb}
+use lib.Bits.{bitOr, or-add-and, and-le-r}
+use lib.Dec.{leb, eqb}
+use lib.ListN.{length, take, drop, getD, set, drop-of-length-le, length-take, length-append, length-set, take-append-drop}
+use lib.Seq.{drop-cons, slice, slice-cons, take-suc-set, take-set-lt, drop-set-lt, append-snoc, take-all, take-append-le, take-take, getD-take}
 use Rattle.gmf.specs.declared.Job.{Job}
 use Rattle.places.specs.Ranges.{jobFits}
 use Rattle.places.specs.Places.{noJob, unused, listedAfter, listed}
@@ -57,54 +60,95 @@ module _ {jobs : List Job} {held last i : ℕ} (l : Listing jobs held last i) wh
 
 -- ---- Unused places
 
--- Those from `start` on are unused exactly when those from i on are.
-pub record Clearing (jobs : List Job) (start i : ℕ) : Type 0 where
-  pub whole : unused (drop start jobs) ≡ unused (drop i jobs)
+-- The bits of two numbers, gathered, are 0 exactly when both numbers are; and so is an id and a cost as one number.
+either-zero : (a b : ℕ) → eqb (bitOr a b) 0 ≡ (eqb a 0 && eqb b 0)
+either-zero a b = go (ℕ-discrete a 0)
+  where
+    go : Dec (a ≡ 0) → eqb (bitOr a b) 0 ≡ (eqb a 0 && eqb b 0)
+    go (yes e) = rw e
+    go (no n) = rw (ne-eqb a 0 n) (ne-eqb (bitOr a b) 0 (λ z. n (omega (arith, or-add-and a b, and-le-r a b))))
 
-pub clearing-starts : {jobs : List Job} {start i : ℕ} → i ≡ start → Clearing jobs start i
-clearing-starts e = record { whole = rw e }
+paired : (a b : ℕ) → eqb (a + b * 65536) 0 ≡ (eqb a 0 && eqb b 0)
+paired a b = go (ℕ-discrete a 0)
+  where
+    two : Dec (b ≡ 0) → eqb (b * 65536) 0 ≡ eqb b 0
+    two (yes e) = rw e
+    two (no n) = ne-eqb (b * 65536) 0 (λ z. n (omega arith)) ∙ sym (ne-eqb b 0 n)
 
-module _ {jobs : List Job} {start i : ℕ} (l : Clearing jobs start i) where
-  pub clearing-ends : length jobs ≤ i → unused (drop start jobs) ≡ true
+    go : Dec (a ≡ 0) → eqb (a + b * 65536) 0 ≡ (eqb a 0 && eqb b 0)
+    go (yes e) = rw (e, zero-add) (two (ℕ-discrete b 0))
+    go (no n) = rw (ne-eqb a 0 n) (ne-eqb (a + b * 65536) 0 (λ z. n (omega arith)))
+
+-- Those from `start` on are unused exactly when nothing was seen and those from i on are.
+pub record Clearing (jobs : List Job) (start seen i : ℕ) : Type 0 where
+  pub whole : unused (drop start jobs) ≡ (eqb seen 0 && unused (drop i jobs))
+
+pub clearing-starts : {jobs : List Job} {start seen i : ℕ} → seen ≡ 0 → i ≡ start → Clearing jobs start seen i
+clearing-starts p q = record { whole = rw (p, q) }
+
+module _ {jobs : List Job} {start seen i : ℕ} (l : Clearing jobs start seen i) where
+  pub clearing-ends : (none : ℕ) → length jobs ≤ i → none ≡ 0 → eqb seen none ≡ unused (drop start jobs)
   unfolding unused
-  clearing-ends h = l .whole ∙ rw (drop-of-length-le jobs {i = i} h)
+  clearing-ends none h e = rw e (sym (l .whole ∙ rw (drop-of-length-le jobs {i = i} h, and-true)))
 
-  module _ (here : i < length jobs) where
-    pub id-used : (getD jobs i noJob .id ≡ 0 → ⊥) → unused (drop start jobs) ≡ false
-    unfolding unused
-    id-used n = l .whole ∙ rw (drop-cons jobs i noJob here) (simp (ne-eqb _ _ n))
+  -- The place at i has id a, cost b and period p.
+  pub clearing-turns : (a b p : ℕ) {i′ : ℕ} → i < length jobs
+      → a ≡ getD jobs i noJob .id → b ≡ getD jobs i noJob .cost → p ≡ getD jobs i noJob .period → i′ ≡ i + 1
+      → Clearing jobs start (bitOr (bitOr seen (a + b * 65536)) p) i′
+  unfolding unused
+  clearing-turns a b p here x y z q = record {
+    whole = l .whole ∙ rw (
+      drop-cons jobs i noJob here,
+      ← x,
+      ← y,
+      ← z,
+      q,
+      add-one,
+      either-zero (bitOr seen (a + b * 65536)) p,
+      either-zero seen (a + b * 65536),
+      paired a b,
+    )
+        (simp and-assoc);
+  }
 
-    pub cost-used : (getD jobs i noJob .cost ≡ 0 → ⊥) → unused (drop start jobs) ≡ false
-    unfolding unused
-    cost-used n = l .whole ∙ rw (drop-cons jobs i noJob here) (simp (ne-eqb _ _ n, and-false))
+-- ---- The places that are passed, and those after them
 
-    pub period-used : (getD jobs i noJob .period ≡ 0 → ⊥) → unused (drop start jobs) ≡ false
-    unfolding unused
-    period-used n = l .whole ∙ rw (drop-cons jobs i noJob here) (simp (ne-eqb _ _ n, and-false))
-
-    pub clearing-turns : {i′ : ℕ} → getD jobs i noJob .id ≡ 0 → getD jobs i noJob .cost ≡ 0 → getD jobs i noJob .period ≡ 0 → i′ ≡ i + 1
-        → Clearing jobs start i′
-    unfolding unused
-    clearing-turns a b c q = record {
-      whole = l .whole ∙ rw (drop-cons jobs i noJob here, q, add-one) (simp (eq-eqb _ _ a, eq-eqb _ _ b, eq-eqb _ _ c));
-    }
+-- A list that starts with the places up to i, cut to the first n of them, with the places after these: nothing of it is new.
+again : (n i : ℕ) (places more : List Job) → length places ≡ 64 → min n 64 ≤ i → places ≡ take 64 (take n (take i places ++ more) ++ drop n places)
+again n i places more long h = go (decLt 64 n)
+  where
+    go : Dec (64 < n) → places ≡ take 64 (take n (take i places ++ more) ++ drop n places)
+    go (yes t) = rw (
+      take-all i places (omega arith),
+      take-append-le 64 (take n (places ++ more)) (drop n places) (simp (length-take, length-append) (omega arith)),
+      take-take 64 n (places ++ more) (omega arith),
+      take-append-le 64 places more (omega arith),
+      take-all 64 places (omega arith),
+    )
+    go (no t) = rw (
+      take-append-le n (take i places) more (simp length-take (omega arith)),
+      take-take n i places (omega arith),
+      take-append-drop n places,
+      take-all 64 places (omega arith),
+    )
 
 -- ---- A job put in
 
--- The jobs in front of i, the one carried and the jobs from i on are all that there are.
-pub record Carrying (at : ℕ) (jobs : List Job) (job : Job) (places : List Job) (carried : Job) (i : ℕ) : Type 0 where
+-- The jobs in front of i, the one carried and the jobs from i on are all that there are; the places after those held are as they were.
+pub record Carrying (held at : ℕ) (jobs : List Job) (job : Job) (places : List Job) (carried : Job) (i : ℕ) : Type 0 where
   pub long : length places ≡ 64
   pub past : at ≤ i
   pub whole : take at jobs ++ job ∷ drop at jobs ≡ take i places ++ carried ∷ drop i places
+  pub rest : drop (suc held) jobs ≡ drop (suc held) places
 
-pub carrying-starts : {places : List Job} {job : Job} {at i : ℕ} → length places ≡ 64 → i ≡ at → Carrying at places job places job i
-carrying-starts n e = record { long = n; past = omega arith; whole = rw e }
+pub carrying-starts : {places : List Job} {job : Job} {held at i : ℕ} → length places ≡ 64 → i ≡ at → Carrying held at places job places job i
+carrying-starts n e = record { long = n; past = omega arith; whole = rw e; rest = refl }
 
-module _ {at : ℕ} {jobs : List Job} {job : Job} {places : List Job} {carried : Job} {i : ℕ} (l : Carrying at jobs job places carried i) where
+module _ {held at : ℕ} {jobs : List Job} {job : Job} {places : List Job} {carried : Job} {i : ℕ} (l : Carrying held at jobs job places carried i) where
   -- The job carried stays at i, and the one that stood there is carried on.
-  pub carrying-turns : (j k : ℕ) (put : Job) {i′ : ℕ} → i < 64
+  pub carrying-turns : (j k : ℕ) (put : Job) {i′ : ℕ} → i ≤ min held 63
       → j ≡ i → put .id ≡ carried .id → put .cost ≡ carried .cost → put .period ≡ carried .period → k ≡ i → i′ ≡ i + 1
-      → Carrying at jobs job (set places j put) (getD places k noJob) i′
+      → Carrying held at jobs job (set places j put) (getD places k noJob) i′
   carrying-turns j k put h p a b c q r =
       let here : i < length places = omega (arith, l .long) in
       record {
@@ -121,36 +165,33 @@ module _ {at : ℕ} {jobs : List Job} {job : Job} {places : List Job} {carried :
           drop-cons places i noJob here,
           append-snoc,
         );
+        rest = l .rest ∙ rw (drop-set-lt (suc held) places j put (omega arith));
       }
 
   -- What is carried past the last place is given up.
-  pub carrying-ends : 64 ≤ i → places ≡ take 64 (take at jobs ++ job ∷ drop at jobs)
-  carrying-ends h =
-      let n : length places ≡ 64 = l .long in
-      rw (
-        l .whole,
-        take-all i places (omega arith),
-        take-append-le 64 places (carried ∷ drop i places) (omega arith),
-        take-all 64 places (omega arith),
-      )
+  pub carrying-ends : min held 63 < i → places ≡ take 64 (take (suc held) (take at jobs ++ job ∷ drop at jobs) ++ drop (suc held) jobs)
+  carrying-ends h = rw (l .whole, l .rest) (again (suc held) i places (carried ∷ drop i places) (l .long) (omega arith))
 
 -- ---- A job taken out
 
--- The jobs in front of i and those after it are all that stay.
-pub record Closing (at : ℕ) (jobs places : List Job) (i : ℕ) : Type 0 where
+-- The jobs in front of i and those after it, of those held, are all that stay; the places after those held are as they were.
+pub record Closing (held at : ℕ) (jobs places : List Job) (i : ℕ) : Type 0 where
   pub long : length places ≡ 64
-  pub short : i < 64
-  pub whole : take at jobs ++ drop (suc at) jobs ≡ take i places ++ drop (suc i) places
+  pub short : i < min held 64
+  pub whole : take at jobs ++ drop (suc at) (take held jobs) ≡ take i places ++ drop (suc i) (take held places)
+  pub rest : drop held jobs ≡ drop held places
 
-pub closing-starts : {places : List Job} {at i : ℕ} → length places ≡ 64 → at < 64 → i ≡ at → Closing at places places i
-closing-starts n h e = record { long = n; short = omega arith; whole = rw e }
+pub closing-starts : {places : List Job} {held at i : ℕ} → length places ≡ 64 → at < min held 64 → i ≡ at → Closing held at places places i
+closing-starts n h e = record { long = n; short = omega arith; whole = rw e; rest = refl }
 
-module _ {at : ℕ} {jobs places : List Job} {i : ℕ} (l : Closing at jobs places i) where
+module _ {held at : ℕ} {jobs places : List Job} {i : ℕ} (l : Closing held at jobs places i) where
   -- The job at the next place moves down.
-  pub closing-turns : (j k : ℕ) {i′ : ℕ} → i < 63 → j ≡ i → k ≡ i + 1 → i′ ≡ i + 1 → Closing at jobs (set places j (getD places k noJob)) i′
+  pub closing-turns : (j k : ℕ) {i′ : ℕ} → i + 1 < min held 64 → j ≡ i → k ≡ i + 1 → i′ ≡ i + 1
+      → Closing held at jobs (set places j (getD places k noJob)) i′
   closing-turns j k h p q r =
+      let n : length places ≡ 64 = l .long in
       let next = getD places (suc i) noJob in
-      let here : suc i < length places = omega (arith, l .long) in
+      let here : suc i < length (take held places) = simp length-take (omega arith) in
       record {
         long = length-set places j (getD places k noJob) ∙ l .long;
         short = omega arith;
@@ -160,36 +201,36 @@ module _ {at : ℕ} {jobs places : List Job} {i : ℕ} (l : Closing at jobs plac
           r,
           add-one,
           take-suc-set places i next (omega arith),
-          drop-set-lt (suc (suc i)) places i next (omega arith),
-          drop-cons places (suc i) noJob here,
+          take-set-lt held places i next (omega arith),
+          drop-set-lt (suc (suc i)) (take held places) i next (omega arith),
+          drop-cons (take held places) (suc i) noJob here,
+          getD-take held places (suc i) noJob (omega arith),
           append-snoc,
         );
+        rest = l .rest ∙ rw (drop-set-lt held places j (getD places k noJob) (omega arith));
       }
 
-  -- All that stood after it moved down, and the last place is unused.
-  pub closing-ends : (k : ℕ) (last : Job) → 63 ≤ i → k ≡ 63 → last .id ≡ 0 → last .cost ≡ 0 → last .period ≡ 0
-      → set places k last ≡ take 64 (take at jobs ++ drop (suc at) jobs ++ noJob ∷ [])
+  -- All that stood after it moved down, and the last place of those held is unused.
+  pub closing-ends : (k : ℕ) (last : Job) → min held 64 ≤ i + 1 → k + 1 ≡ min held 64 → last .id ≡ 0 → last .cost ≡ 0 → last .period ≡ 0
+      → set places k last ≡ take 64 (take held (take at jobs ++ drop (suc at) (take held jobs) ++ noJob ∷ []) ++ drop held jobs)
   closing-ends k last h e a b c =
       let n : length places ≡ 64 = l .long in
-      let p : i ≡ k = omega (arith, l .short) in
-      let none : drop (suc i) places ≡ [] = drop-of-length-le places {i = suc i} (omega arith) in
-      let all : set places k last ≡ take at jobs ++ drop (suc at) jobs ++ noJob ∷ [] = rw (
-        ← p,
-        set-split places i last (omega arith),
-        same-job last noJob a b c,
+      let p : k ≡ i = omega (arith, l .short) in
+      let none : drop (suc i) (take held places) ≡ [] = drop-of-length-le (take held places) {i = suc i} (simp length-take (omega arith)) in
+      again held (suc k) (set places k last) [] (length-set places k last ∙ n) (omega arith)
+      ∙ rw (
         l .whole,
+        l .rest,
         none,
-        append-nil,
-      ) in
-      all ∙ sym (take-all 64 (take at jobs ++ drop (suc at) jobs ++ noJob ∷ []) (omega (arith, ap length all, length-set places k last)))
+        append-nil (take i places),
+        append-nil (take (suc k) (set places k last)),
+        take-suc-set places k last (omega (arith, l .short)),
+        drop-set-lt held places k last (omega (arith, l .short)),
+        p,
+        same-job last noJob a b c,
+      )
 
--- Past the last place nothing stands.
-pub none-out : (places : List Job) (at : ℕ) → length places ≡ 64 → 64 ≤ at → places ≡ take 64 (take at places ++ drop (suc at) places ++ noJob ∷ [])
-none-out places at n h =
-    sym (rw (
-      take-all at places (omega arith),
-      drop-of-length-le places {i = suc at} (omega arith),
-      append-nil,
-      take-append-le 64 places (noJob ∷ []) (omega arith),
-      take-all 64 places (omega arith),
-    ))
+-- Past the last place of those held nothing is taken out.
+pub none-out : (places : List Job) (held at : ℕ) → length places ≡ 64 → min held 64 ≤ at
+    → places ≡ take 64 (take held (take at places ++ drop (suc at) (take held places) ++ noJob ∷ []) ++ drop held places)
+none-out places held at n h = rw append-assoc (again held at places (drop (suc at) (take held places) ++ noJob ∷ []) n h)

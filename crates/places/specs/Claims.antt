@@ -36,8 +36,9 @@ pub record BeforeRule (id : ℕ) (jobs : List Job) : Type 0 where
 pub record InsertRule (new : Job) (jobs : List Job) : Type 0 where
   pub size : length (insert new jobs) ≡ suc (length jobs)
   pub at-place : insert new jobs ≡ take (before (new .id) jobs) jobs ++ new ∷ drop (before (new .id) jobs) jobs
-  pub in-places : (at : ℕ) → at ≡ before (new .id) jobs → length jobs < 64
-      → take 64 (take at (placesOf jobs) ++ new ∷ drop at (placesOf jobs)) ≡ placesOf (insert new jobs)
+  pub in-places : (held at : ℕ) → held ≡ length jobs → at ≡ before (new .id) jobs → length jobs < 64
+      → take 64 (take (suc held) (take at (placesOf jobs) ++ new ∷ drop at (placesOf jobs)) ++ drop (suc held) (placesOf jobs))
+      ≡ placesOf (insert new jobs)
   pub listed-again : JobInRange new → listed jobs ≡ true → has (new .id) jobs ≡ false → listed (insert new jobs) ≡ true
   pub there-now : has (new .id) (insert new jobs) ≡ true
 
@@ -47,8 +48,9 @@ pub record RemoveRule (id : ℕ) (jobs : List Job) : Type 0 where
       → (lower : List Job) × (job : Job) × (higher : List Job)
       × (job .id ≡ id) × (jobs ≡ lower ++ job ∷ higher) × (remove id jobs ≡ lower ++ higher)
   pub size : has id jobs ≡ true → suc (length (remove id jobs)) ≡ length jobs
-  pub in-places : (at : ℕ) → at ≡ before id jobs → length jobs ≤ 64 → listed jobs ≡ true → has id jobs ≡ true
-      → take 64 (take at (placesOf jobs) ++ drop (suc at) (placesOf jobs) ++ noJob ∷ []) ≡ placesOf (remove id jobs)
+  pub in-places : (held at : ℕ) → held ≡ length jobs → at ≡ before id jobs → length jobs ≤ 64 → listed jobs ≡ true → has id jobs ≡ true
+      → take 64 (take held (take at (placesOf jobs) ++ drop (suc at) (take held (placesOf jobs)) ++ noJob ∷ []) ++ drop held (placesOf jobs))
+      ≡ placesOf (remove id jobs)
   pub not-there : has id jobs ≡ false → remove id jobs ≡ jobs
   pub listed-again : listed jobs ≡ true → listed (remove id jobs) ≡ true
   pub gone : listed jobs ≡ true → has id (remove id jobs) ≡ false

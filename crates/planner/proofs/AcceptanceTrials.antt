@@ -17,7 +17,7 @@ use Rattle.planner.specs.Model.{refuseIf, isOpen, onMachine, opened, wei
 use Rattle.planner.specs.Model as model
 use Rattle.planner.specs.Roster.{emptyRoster, modelOf, rosterOf, inShape, sound, allZero, wellFormed, replied, replyTo}
 use Rattle.planner.specs.Calls.{refusalNumber, numberOf, outcomeNumber, after, modelNumbers, modelAfter, rosterAfter}
-use Rattle.planner.specs.Claims.{rosterWith, CallTrials, FormTrials}
+use Rattle.planner.specs.Claims.{rosterWith, CallTrials, ExampleCalls, FormTrials}
 
 pub call-trials : CallTrials
 unfolding euclid gcd lcm speed top window hyperperiod work works insert sortDescending largest capacity slowest raise demand holds raisesLeft raiseWhileFails step steps growing planOf rise cube tabulate cubes defaultTable machine jobsFrom entriesOf zeros oneTo jobFits placesOf unused listedAfter listed has remove places.insert speedsFit allBelow isTable tooLong foundNone noPlan refuseIf isOpen onMachine opened weighed admitted retired model.step refusalNumber numberOf outcomeNumber after modelNumbers modelAfter emptyRoster modelOf rosterOf inShape sound allZero wellFormed replied replyTo rosterAfter rosterWith
@@ -33,6 +33,18 @@ call-trials = record {
   left = refl;
   damaged = refl;
   damaged-left = refl;
+}
+
+pub example-calls : ExampleCalls
+unfolding euclid gcd lcm speed top window hyperperiod work works insert sortDescending largest capacity slowest raise demand holds raisesLeft raiseWhileFails step steps growing planOf cube tabulate cubes defaultTable machine oneTo jobFits has places.insert speedsFit tooLong foundNone noPlan refuseIf isOpen onMachine opened weighed admitted model.step refusalNumber outcomeNumber after
+example-calls = record {
+  opens = (refl, refl);
+  admits-1 = (refl, refl);
+  admits-2 = (refl, refl);
+  admits-3 = (refl, refl);
+  admits-4 = (refl, refl);
+  admits-5 = (refl, refl);
+  refuses-6 = (refl, refl);
 }
 
 pub form-trials : FormTrials

@@ -1,10 +1,10 @@
--- Every list of calls from the empty roster follows the model: one induction over the list.
+-- A call on the roster of a model that keeps the rules follows the model.
 use Prim.Native.Nat.{ℕ, _≤_}
 use native.Mathlib.Omega.{arith}
-use mathlib.Core.Path.{_≡_, refl, sym, ap, ap₂, subst, _∙_}
-use mathlib.Core.Bool.{Bool, true, false, false≢true}
-use mathlib.Core.List.{List, [], _∷_}
-use borrow.Author.Tests.{eq-eqb, lt-leb}
+use mathlib.Core.Path.{_≡_, refl, sym, ap, _∙_}
+use mathlib.Core.Bool.{Bool, true, false}
+use mathlib.Core.List.{List}
+use borrow.Author.Tests.{lt-leb}
 use lib.ListN.{length}
 use Rattle.gmf.specs.declared.Machine.{Machine}
 use Rattle.gmf.specs.declared.Job.{Job}
@@ -17,7 +17,6 @@ use Rattle.planner.specs.declared.Refusal.the-variants.{NoPlan}
 use Rattle.planner.specs.Tests.{noPlan}
 use Rattle.planner.specs.Model.{
   Model,
-  Closed,
   Opened,
   Call,
   Admit,
@@ -30,14 +29,14 @@ use Rattle.planner.specs.Model.{
   admitted,
   step,
 }
-use Rattle.planner.specs.Roster.{emptyRoster, modelOf, rosterOf, wellFormed, replied, replyTo}
-use Rattle.planner.specs.Calls.{refusalNumber, numberOf, outcomeNumber, after, modelNumbers, modelAfter, replyNumbers, rosterAfter}
-use Rattle.planner.specs.Claims.{Rules, Offered, answerTo, TurnedDown, Follows}
+use Rattle.planner.specs.Roster.{rosterOf, replied, replyTo}
+use Rattle.planner.specs.Calls.{refusalNumber, numberOf, outcomeNumber, after}
+use Rattle.planner.specs.Claims.{Rules, Kept, CallRule, OneCall, Offered, answerTo, TurnedDown, TurnsDown}
 use Rattle.planner.proofs.TestRules.{none-passes, passes-none}
 use Rattle.planner.proofs.Passing.{long-not, plan-passes, passes-plan}
-use Rattle.planner.proofs.Forms.{closed-roster, Kept, kept-form, kept-model}
+use Rattle.planner.proofs.Forms.{kept-form, kept-model}
 use Rattle.planner.proofs.Replies.{reply-well}
-use Rattle.planner.proofs.Steps.{Fair, stays, turns, fair-after, fair-step}
+use Rattle.planner.proofs.Steps.{fair-after, fair-step}
 
 -- ---- One call
 
@@ -67,34 +66,14 @@ module _ (model : Model) (call : Call) (kept : Kept model) where
   reply-roster : replyTo (rosterOf model) call .roster ≡ rosterOf (after model (step model call))
   reply-roster = ap (λ r. r .roster) (reply-kept model call kept) ∙ replied-roster model (step model call)
 
--- ---- A list of calls
-
-numbers-follow : (model : Model) (calls : List Call) → Kept model → replyNumbers (rosterOf model) calls ≡ modelNumbers model calls
-unfolding replyNumbers modelNumbers
-numbers-follow model [] kept = refl
-numbers-follow model (call ∷ calls) kept =
-    ap₂ _∷_ (reply-number model call kept)
-    (ap (λ r. replyNumbers r calls) (reply-roster model call kept)
-    ∙ numbers-follow (after model (step model call)) calls (next-kept model call kept))
-
-roster-follows : (model : Model) (calls : List Call) → Kept model → rosterAfter (rosterOf model) calls ≡ rosterOf (modelAfter model calls)
-unfolding rosterAfter modelAfter
-roster-follows model [] kept = refl
-roster-follows model (call ∷ calls) kept =
-    ap (λ r. rosterAfter r calls) (reply-roster model call kept)
-    ∙ roster-follows (after model (step model call)) calls (next-kept model call kept)
-
-kept-after : (model : Model) (calls : List Call) → Kept model → Kept (modelAfter model calls)
-unfolding modelAfter
-kept-after model [] kept = kept
-kept-after model (call ∷ calls) kept = kept-after (after model (step model call)) calls (next-kept model call kept)
-
--- ---- No refusal by 7
-
-never : (o : Outcome) → Fair o → outcomeNumber o ≡ 7 → ⊥
-unfolding outcomeNumber
-never (refused refusal) (stays n) e = false≢true (sym n ∙ eq-eqb (refusalNumber refusal) 7 e)
-never (accepted model) (turns kept) e = omega arith
+pub one-call : OneCall
+one-call model kept = record {
+  well-formed = kept-form model kept;
+  carried = kept-model model kept;
+  number = λ call. reply-number model call kept;
+  roster = λ call. reply-roster model call kept;
+  kept = λ call. next-kept model call kept;
+}
 
 -- ---- A job that only 17 could refuse
 
@@ -132,7 +111,6 @@ module _ (M : Machine) (table : List ℕ) (jobs : List Job) (rules : Rules M tab
   weighed-as false = refl
 
   answered : answerTo roster new ≡ weight (noPlan M more)
-  unfolding answerTo
   answered = reply-number (Opened M table jobs) call (rules, few) ∙ ap outcomeNumber only-17 ∙ weighed-as (noPlan M more)
 
   is-17 : (b : Bool) → weight b ≡ 17 → b ≡ true
@@ -158,7 +136,7 @@ module _ (M : Machine) (table : List ℕ) (jobs : List Job) (rules : Rules M tab
   unfolding weight
   number-0 some = answered ∙ ap weight (passes-plan M (rules .machine-range) more some)
 
-  pub turned-down : TurnedDown roster M jobs new
+  pub turned-down : TurnedDown (answerTo roster new) M jobs new
   turned-down = record {
     turned-down = (
       (λ n. none-passes M (rules .machine-range) more (is-not-0 (noPlan M more) (λ e. n (answered ∙ e)))),
@@ -168,35 +146,5 @@ module _ (M : Machine) (table : List ℕ) (jobs : List Job) (rules : Rules M tab
     or-accepted = ((λ e. plan-passes M (rules .machine-range) more (is-0 (noPlan M more) (sym answered ∙ e))), number-0);
   }
 
--- ---- All of it
-
-module _ (calls : List Call) where
-  abbrev end : Model
-  end = modelAfter Closed calls
-
-  end-kept : Kept end
-  end-kept = kept-after Closed calls tt
-
-  ends : rosterAfter emptyRoster calls ≡ rosterOf end
-  ends = ap (λ r. rosterAfter r calls) (sym closed-roster) ∙ roster-follows Closed calls tt
-
-  module _ (M : Machine) (table : List ℕ) (jobs : List Job) (e : end ≡ Opened M table jobs) where
-    open-end : Kept (Opened M table jobs)
-    open-end = subst Kept e end-kept
-
-    open-turned-down : (new : Job) → Offered jobs new → TurnedDown (rosterAfter emptyRoster calls) M jobs new
-    open-turned-down new offered =
-        subst (λ r. TurnedDown r M jobs new) (sym (ends ∙ ap rosterOf e)) (turned-down M table jobs (open-end .0) (open-end .1) new offered)
-
-  pub follows : Follows calls
-  follows = record {
-    replies = ap (λ r. replyNumbers r calls) (sym closed-roster) ∙ numbers-follow Closed calls tt;
-    roster = ends;
-    well-formed = ap wellFormed ends ∙ kept-form end end-kept;
-    never-7 = λ call e.
-        never (step end call) (fair-step end call end-kept) (sym (reply-number end call end-kept) ∙ ap (λ r. numberOf (replyTo r call .answer)) (sym ends) ∙ e);
-    model = ap modelOf ends ∙ kept-model end end-kept;
-    rules = λ M table jobs e. open-end M table jobs e .0;
-    at-most-64 = λ M table jobs e. open-end M table jobs e .1;
-    turned-down = open-turned-down;
-  }
+pub turns-down : TurnsDown
+turns-down M table jobs kept = turned-down M table jobs (kept .0) (kept .1)

@@ -25,7 +25,7 @@ use Rattle.planner.specs.Model.{Model, Closed, Opened}
 use Rattle.power_tables.specs.Tables.{isTable}
 use Rattle.planner.specs.Tests.{speedsFit, tooLong, noPlan}
 use Rattle.planner.specs.Roster.{emptyRoster, modelOf, rosterOf, inShape, allZero, sound, wellFormed}
-use Rattle.planner.specs.Claims.{Rules, IsSound, FormRule, Forms}
+use Rattle.planner.specs.Claims.{Rules, IsSound, FormRule, Forms, Kept}
 use Rattle.gmf.proofs.Sums.{both-true}
 use Rattle.power_tables.proofs.Results.{table-laws}
 use Rattle.planner.proofs.TestRules.{machine-range, range-processors, range-speeds}
@@ -236,11 +236,6 @@ pub forms : Forms
 forms = form-rule
 
 -- ---- The roster of a model
-
--- What every model made by calls is.
-abbrev pub Kept : Model → Type 0
-Kept Closed = Unit {0}
-Kept (Opened M table jobs) = Rules M table jobs × (length jobs ≤ 64)
 
 module _ (M : Machine) (table : List ℕ) (jobs : List Job) (rules : Rules M table jobs) (few : length jobs ≤ 64) where
   abbrev roster : Roster

@@ -1,5 +1,6 @@
 pub mod AcceptanceTrials
 pub mod TestRules
+pub mod Numbers
 pub mod Passing
 pub mod Forms
 pub mod Shapes

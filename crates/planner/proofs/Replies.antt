@@ -55,7 +55,7 @@ use Rattle.planner.specs.Model.{
   step,
 }
 use Rattle.planner.specs.Roster.{emptyRoster, modelOf, rosterOf, wellFormed, conditionOf, inspected, replied, replyTo}
-use Rattle.planner.specs.Claims.{IsSound}
+use Rattle.planner.specs.Claims.{IsSound, Inspects}
 use Rattle.planner.proofs.TestRules.{passes-none}
 use Rattle.planner.proofs.Passing.{long-not, passes-plan}
 use Rattle.planner.proofs.Forms.{same-roster, rules-listed, form-sound, sound-form, form-rule, model-open, model-none}
@@ -111,6 +111,16 @@ module _ (r : Roster) where
             form-sound r entries places some f,
             ap inside (sym e ∙ found true f ∙ ap conditionOf (model-open r some)),
           )
+
+pub inspects : Inspects
+inspects r entries places = record {
+  damaged = is-damaged r;
+  closed = is-closed r;
+  open-form = λ t e. sound-form r entries places (is-open r t entries places e .0);
+  open-model = λ t e. model-open r (λ none. omega (arith, is-open r t entries places e .0 .rules .machine-range .processors));
+  open-sound = λ t e. is-open r t entries places e .0;
+  open-totals = λ t e. is-open r t entries places e .1;
+}
 
 -- ---- Calls by their outcome
 
@@ -278,7 +288,7 @@ module _ (r : Roster) (entries : length (r .table) ≡ 32) (places : length (r .
                 settled (refused NoPlan) (admit-17 M numbers jobs new fresh room (long-not more (told .0)) (passes-none M ranges more (told .1)))
 
             pub enter-in : judged (M .processors) l ≡ verdict.SomePlan → (at : ℕ) (new-places : List Job) → at ≡ before (new .id) jobs
-                → new-places ≡ take 64 (take at (r .jobs) ++ new ∷ drop at (r .jobs))
+                → new-places ≡ take 64 (take (suc (r .held)) (take at (r .jobs) ++ new ∷ drop at (r .jobs)) ++ drop (suc (r .held)) (r .jobs))
                 → record { answer = Accepted; roster = record { machine = M; table = r .table; held = r .held + 1; jobs = new-places } } ≡ asked
             unfolding Tells replied rosterOf
             enter-in e at new-places here p =
@@ -286,8 +296,8 @@ module _ (r : Roster) (entries : length (r .table) ≡ 32) (places : length (r .
                 same-fields M (r .table) _ (r .held + 1) (length more) new-places (placesOf more) entries-carried
                 (omega (arith, placing .inserts new jobs .size, held-count))
                 (p
-                ∙ ap (λ (q : List Job). take 64 (take at q ++ new ∷ drop at q)) places-carried
-                ∙ placing .inserts new jobs .in-places at here room)
+                ∙ ap (λ (q : List Job). take 64 (take (suc (r .held)) (take at q ++ new ∷ drop at q) ++ drop (suc (r .held)) q)) places-carried
+                ∙ placing .inserts new jobs .in-places (r .held) at (sym held-count) here room)
                 ∙ settled (accepted (Opened M numbers more))
                 (admit-0 M numbers jobs new fresh room (long-not more (told .0)) (passes-plan M ranges more (told .1)))
 
@@ -308,13 +318,14 @@ module _ (r : Roster) (entries : length (r .table) ≡ 32) (places : length (r .
         leave-some = omega (arith, placing .removes id jobs .size there, held-count)
 
         pub leave-out : (at : ℕ) (new-places : List Job) → at ≡ before id jobs
-            → new-places ≡ take 64 (take at (r .jobs) ++ drop (suc at) (r .jobs) ++ noJob ∷ [])
+            → new-places
+            ≡ take 64 (take (r .held) (take at (r .jobs) ++ drop (suc at) (take (r .held) (r .jobs)) ++ noJob ∷ []) ++ drop (r .held) (r .jobs))
             → record { answer = Accepted; roster = record { machine = M; table = r .table; held = r .held - 1; jobs = new-places } } ≡ left
         unfolding replied rosterOf
         leave-out at new-places here p =
             same-fields M (r .table) _ (r .held - 1) (length (remove id jobs)) new-places (placesOf (remove id jobs)) entries-carried
             (omega (arith, placing .removes id jobs .size there, held-count))
             (p
-            ∙ ap (λ (q : List Job). take 64 (take at q ++ drop (suc at) q ++ noJob ∷ [])) places-carried
-            ∙ placing .removes id jobs .in-places at here (omega (arith, held-count, s .places)) held-listed there)
+            ∙ ap (λ (q : List Job). take 64 (take (r .held) (take at q ++ drop (suc at) (take (r .held) q) ++ noJob ∷ []) ++ drop (r .held) q)) places-carried
+            ∙ placing .removes id jobs .in-places (r .held) at (sym held-count) here (omega (arith, held-count, s .places)) held-listed there)
             ∙ gone (accepted (Opened M numbers (remove id jobs))) (retire-0 M numbers jobs id there)

@@ -1,15 +1,22 @@
 -- The claims of the roster and its calls, proved.
 use Rattle.planner.specs.Claims.{Planner}
-use Rattle.planner.proofs.AcceptanceTrials.{call-trials, form-trials}
+use Rattle.planner.proofs.AcceptanceTrials.{call-trials, example-calls, form-trials}
 use Rattle.planner.proofs.TestRules.{test-rule}
-use Rattle.planner.proofs.Forms.{forms}
-use Rattle.planner.proofs.Following.{follows}
+use Rattle.planner.proofs.Numbers.{number-rule}
+use Rattle.planner.proofs.Forms.{closed-roster, forms}
+use Rattle.planner.proofs.Replies.{inspects}
+use Rattle.planner.proofs.Following.{one-call, turns-down}
 
 pub planner : Planner
 planner = record {
   tests = test-rule;
+  numbers = number-rule;
+  begins = closed-roster;
   forms = forms;
-  follows = follows;
+  inspects = inspects;
+  one-call = one-call;
+  turns-down = turns-down;
   call-trials = call-trials;
+  example-calls = example-calls;
   form-trials = form-trials;
 }

@@ -22,11 +22,11 @@ use Rattle.power_tables.specs.Tables.{isTable}
 use Rattle.planner.specs.Tests.{tooLong, noPlan}
 use Rattle.planner.specs.Model.{Model, Closed, Opened, Call, OpenMachine, ReplaceTable, Admit, Retire, Outcome, refused, accepted, refuseIf, onMachine, opened, weighed, admitted, retired, step}
 use Rattle.planner.specs.Calls.{refusalNumber, after}
-use Rattle.planner.specs.Claims.{Rules}
+use Rattle.planner.specs.Claims.{Rules, Kept}
 use Rattle.power_tables.proofs.Results.{table-laws}
 use Rattle.planner.proofs.TestRules.{machine-range}
 use Rattle.planner.proofs.Passing.{not-long, plan-passes}
-use Rattle.planner.proofs.Forms.{rules-listed, Kept}
+use Rattle.planner.proofs.Forms.{rules-listed}
 
 -- An outcome that is no refusal by 7 and leaves the rules kept.
 pub data Fair : Outcome → Type 0 where

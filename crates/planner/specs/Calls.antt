@@ -1,5 +1,4 @@
--- A list of calls (01, "The list of calls and its book"): what the model says of it, and what comes of making the calls one after the
--- other on a roster.
+-- The numbers of answers, and lists of these calls, for the known results (desk has the lists of all calls).
 use Prim.Native.Nat.{ℕ}
 use mathlib.Core.List.{List, [], _∷_}
 use Rattle.planner.specs.declared.Roster.{Roster}
@@ -17,6 +16,8 @@ use Rattle.planner.specs.declared.Refusal.the-variants.{
   PlacesFull,
   HyperperiodTooLong,
   NoPlan,
+  Malformed,
+  NoRoom,
 }
 use Rattle.planner.specs.declared.Answer.{Answer}
 use Rattle.planner.specs.declared.Answer.the-variants.{Accepted, Refused}
@@ -37,6 +38,8 @@ refusalNumber IdNotHeld = 14
 refusalNumber PlacesFull = 15
 refusalNumber HyperperiodTooLong = 16
 refusalNumber NoPlan = 17
+refusalNumber Malformed = 5
+refusalNumber NoRoom = 6
 
 -- "Compared are each call's acceptance or refusal number …": 0 is acceptance.
 unfoldable pub numberOf : Answer → ℕ
@@ -63,12 +66,7 @@ unfoldable pub modelAfter : Model → List Call → Model
 modelAfter model [] = model
 modelAfter model (call ∷ calls) = modelAfter (after model (step model call)) calls
 
--- "Each call … gets the roster that the call before it returned or left …". Every call's contract is `replyTo`.
-unfoldable pub replyNumbers : Roster → List Call → List ℕ
-replyNumbers roster [] = []
-replyNumbers roster (call ∷ calls) = numberOf (replyTo roster call .answer) ∷ replyNumbers (replyTo roster call .roster) calls
-
--- "… and the roster at the end."
+-- "Each call … gets the roster that the call before it returned or left …": the roster at the end. Every call's contract is `replyTo`.
 unfoldable pub rosterAfter : Roster → List Call → Roster
 rosterAfter roster [] = roster
 rosterAfter roster (call ∷ calls) = rosterAfter (replyTo roster call .roster) calls

@@ -14,8 +14,12 @@ use Rattle.gmf.specs.Trials.{jobsFrom}
 use Rattle.gmf.specs.Claims.{Feasible, NonePasses}
 use Rattle.places.specs.Ranges.{oneTo}
 use Rattle.places.specs.Places.{noJob, placesOf, has, insert}
+use Rattle.workload.specs.declared.Totals.{Totals}
+use Rattle.workload.specs.Load.{totals}
 use Rattle.power_tables.specs.Entries.{entriesOf}
 use Rattle.planner.specs.declared.Roster.{Roster}
+use Rattle.planner.specs.declared.Condition.the-variants as condition
+use Rattle.planner.specs.declared.Refusal.{Refusal}
 use Rattle.planner.specs.declared.Refusal.the-variants.{
   Processors,
   Speeds,
@@ -29,12 +33,15 @@ use Rattle.planner.specs.declared.Refusal.the-variants.{
   PlacesFull,
   HyperperiodTooLong,
   NoPlan,
+  Malformed,
+  NoRoom,
 }
+use Rattle.planner.specs.declared.Answer.{Answer}
 use Rattle.planner.specs.declared.Answer.the-variants.{Accepted, Refused}
 use Rattle.planner.specs.Tests.{speedsFit, tooLong, noPlan}
-use Rattle.planner.specs.Model.{Closed, Opened, Call, OpenMachine, ReplaceTable, Admit, Retire, step}
-use Rattle.planner.specs.Roster.{emptyRoster, modelOf, rosterOf, wellFormed, replyTo}
-use Rattle.planner.specs.Calls.{numberOf, outcomeNumber, modelNumbers, modelAfter, replyNumbers, rosterAfter}
+use Rattle.planner.specs.Model.{Model, Closed, Opened, Call, OpenMachine, ReplaceTable, Admit, Retire, step}
+use Rattle.planner.specs.Roster.{emptyRoster, modelOf, rosterOf, wellFormed, inspected, replyTo}
+use Rattle.planner.specs.Calls.{refusalNumber, numberOf, outcomeNumber, after, modelNumbers, modelAfter, rosterAfter}
 
 -- ---- The tests say what 01 says
 
@@ -45,6 +52,18 @@ pub record TestRule : Type 0 where
   pub limits : (jobs : List Job) → (tooLong jobs ≡ true) ↔ (hyperperiodLimit < hyperperiod jobs)
   -- 17: no plan passes.
   pub plans : (M : Machine) → InRange M → (jobs : List Job) → (noPlan M jobs ≡ true) ↔ NonePasses M (hyperperiod jobs) (works jobs)
+
+-- ---- Numbers
+
+-- What the numbers of answers say: 0 is acceptance alone, and each refusal has a number of its own, so that a number tells the answer.
+pub record NumberRule : Type 0 where
+  pub accepted : numberOf Accepted ≡ 0
+  pub refused : (refusal : Refusal) → numberOf (Refused refusal) ≡ refusalNumber refusal
+  pub never-0 : (refusal : Refusal) → refusalNumber refusal ≡ 0 → ⊥
+  pub one-answer : (a b : Answer) → numberOf a ≡ numberOf b → a ≡ b
+  pub malformed : refusalNumber Malformed ≡ 5
+  pub damaged : refusalNumber Damaged ≡ 7
+  pub no-machine : refusalNumber NoMachine ≡ 11
 
 -- ---- Well-formed rosters
 
@@ -72,7 +91,38 @@ pub record FormRule (r : Roster) : Type 0 where
 abbrev pub Forms : Type 0
 Forms = (r : Roster) → length (r .table) ≡ 32 → length (r .jobs) ≡ 64 → FormRule r
 
--- ---- Lists of calls
+-- What `inspect` tells of a roster.
+pub record InspectRule (r : Roster) : Type 0 where
+  pub damaged : inspected r ≡ condition.Damaged → wellFormed r ≡ false
+  pub closed : inspected r ≡ condition.Closed → (wellFormed r ≡ true) × (modelOf r ≡ Closed)
+  pub open-form : (t : Totals) → inspected r ≡ condition.Open t → wellFormed r ≡ true
+  pub open-model : (t : Totals) → inspected r ≡ condition.Open t
+      → modelOf r ≡ Opened (r .machine) (take (r .machine .levels) (r .table)) (take (r .held) (r .jobs))
+  pub open-sound : (t : Totals) → inspected r ≡ condition.Open t → IsSound r
+  pub open-totals : (t : Totals) → inspected r ≡ condition.Open t → t ≡ totals (take (r .held) (r .jobs))
+
+abbrev pub Inspects : Type 0
+Inspects = (r : Roster) → length (r .table) ≡ 32 → length (r .jobs) ≡ 64 → InspectRule r
+
+-- ---- One call
+
+-- What every model made by calls keeps.
+abbrev pub Kept : Model → Type 0
+Kept Closed = Unit {0}
+Kept (Opened M table jobs) = Rules M table jobs × (length jobs ≤ 64)
+
+-- A call on the roster of such a model: the answer's number and the next roster are the model's, and the next model is such again.
+pub record CallRule (model : Model) : Type 0 where
+  pub well-formed : wellFormed (rosterOf model) ≡ true
+  pub carried : modelOf (rosterOf model) ≡ model
+  pub number : (call : Call) → numberOf (replyTo (rosterOf model) call .answer) ≡ outcomeNumber (step model call)
+  pub roster : (call : Call) → replyTo (rosterOf model) call .roster ≡ rosterOf (after model (step model call))
+  pub kept : (call : Call) → Kept (after model (step model call))
+
+abbrev pub OneCall : Type 0
+OneCall = (model : Model) → Kept model → CallRule model
+
+-- ---- A job offered
 
 -- A job that is offered to a roster with these jobs: in range, under a new id, with a place free and the hyperperiod within its limit.
 pub record Offered (jobs : List Job) (new : Job) : Type 0 where
@@ -82,30 +132,18 @@ pub record Offered (jobs : List Job) (new : Job) : Type 0 where
   pub within-limit : hyperperiod (insert new jobs) ≤ hyperperiodLimit
 
 -- The number of the answer to it.
-unfoldable pub answerTo : Roster → Job → ℕ
+abbrev pub answerTo : Roster → Job → ℕ
 answerTo roster new = numberOf (replyTo roster (Admit (new .id) (new .cost) (new .period)) .answer)
 
--- Demand 3: it "is turned down exactly when no plan passes with it added"; then by 17, and otherwise it is accepted.
-pub record TurnedDown (roster : Roster) (M : Machine) (jobs : List Job) (new : Job) : Type 0 where
-  pub turned-down : (answerTo roster new ≡ 0 → ⊥) ↔ NonePasses M (hyperperiod (insert new jobs)) (works (insert new jobs))
-  pub by-17 : (answerTo roster new ≡ 17) ↔ NonePasses M (hyperperiod (insert new jobs)) (works (insert new jobs))
-  pub or-accepted : (answerTo roster new ≡ 0) ↔ Feasible M (insert new jobs)
+-- Demand 3: by the number of its answer it "is turned down exactly when no plan passes with it added"; then by 17, and otherwise it is accepted.
+pub record TurnedDown (number : ℕ) (M : Machine) (jobs : List Job) (new : Job) : Type 0 where
+  pub turned-down : (number ≡ 0 → ⊥) ↔ NonePasses M (hyperperiod (insert new jobs)) (works (insert new jobs))
+  pub by-17 : (number ≡ 17) ↔ NonePasses M (hyperperiod (insert new jobs)) (works (insert new jobs))
+  pub or-accepted : (number ≡ 0) ↔ Feasible M (insert new jobs)
 
--- For every list of calls from the empty roster, refused ones included.
-pub record Follows (calls : List Call) : Type 0 where
-  -- "Compared are each call's acceptance or refusal number … and the roster at the end."
-  pub replies : replyNumbers emptyRoster calls ≡ modelNumbers Closed calls
-  pub roster : rosterAfter emptyRoster calls ≡ rosterOf (modelAfter Closed calls)
-  -- "… a roster made by these calls never meets it" (7), whatever is called next.
-  pub well-formed : wellFormed (rosterAfter emptyRoster calls) ≡ true
-  pub never-7 : (call : Call) → numberOf (replyTo (rosterAfter emptyRoster calls) call .answer) ≡ 7 → ⊥
-  -- What the roster carries is the model.
-  pub model : modelOf (rosterAfter emptyRoster calls) ≡ modelAfter Closed calls
-  -- On an open machine the rules hold, at most 64 jobs are held, and a job is turned down exactly when no plan passes.
-  pub rules : (M : Machine) (table : List ℕ) (jobs : List Job) → modelAfter Closed calls ≡ Opened M table jobs → Rules M table jobs
-  pub at-most-64 : (M : Machine) (table : List ℕ) (jobs : List Job) → modelAfter Closed calls ≡ Opened M table jobs → length jobs ≤ 64
-  pub turned-down : (M : Machine) (table : List ℕ) (jobs : List Job) → modelAfter Closed calls ≡ Opened M table jobs
-      → (new : Job) → Offered jobs new → TurnedDown (rosterAfter emptyRoster calls) M jobs new
+abbrev pub TurnsDown : Type 0
+TurnsDown = (M : Machine) (table : List ℕ) (jobs : List Job) → Kept (Opened M table jobs)
+    → (new : Job) → Offered jobs new → TurnedDown (answerTo (rosterOf (Opened M table jobs)) new) M jobs new
 
 -- ---- Known results
 
@@ -121,6 +159,8 @@ pub record CallTrials : Type 0 where
       ∷ Refused Speeds
       ∷ Refused PowerTable
       ∷ Refused JobNumbers
+      ∷ Refused Malformed
+      ∷ Refused NoRoom
       ∷ Refused Damaged
       ∷ Refused NoMachine
       ∷ Refused MachineOpen
@@ -130,7 +170,7 @@ pub record CallTrials : Type 0 where
       ∷ Refused HyperperiodTooLong
       ∷ Refused NoPlan
       ∷ []
-      ) ≡ 0 ∷ 1 ∷ 2 ∷ 3 ∷ 4 ∷ 7 ∷ 11 ∷ 12 ∷ 13 ∷ 14 ∷ 15 ∷ 16 ∷ 17 ∷ []
+      ) ≡ 0 ∷ 1 ∷ 2 ∷ 3 ∷ 4 ∷ 5 ∷ 6 ∷ 7 ∷ 11 ∷ 12 ∷ 13 ∷ 14 ∷ 15 ∷ 16 ∷ 17 ∷ []
   -- 01's sheet up to its plan: the job 11/10 is refused by 17.
   pub sheet : modelNumbers Closed (
       OpenMachine 4 4 1 1
@@ -181,6 +221,25 @@ pub record CallTrials : Type 0 where
       ) ≡ 7 ∷ 7 ∷ 7 ∷ 7 ∷ []
   pub damaged-left : replyTo (rosterWith (machine 1 1 1 1) (1 ∷ []) 1 []) (Retire 9) .roster ≡ rosterWith (machine 1 1 1 1) (1 ∷ []) 1 []
 
+-- The model with the first k jobs of 01's sheet.
+abbrev pub exampleModel : ℕ → Model
+exampleModel k =
+    Opened (machine 4 4 1 1) (1 ∷ 8 ∷ 27 ∷ 64 ∷ []) (take k (job 1 10 10 ∷ job 2 9 10 ∷ job 3 6 10 ∷ job 4 5 10 ∷ job 5 1 10 ∷ []))
+
+-- The number that a call gets on a model, and the next model.
+abbrev pub Does : Model → Call → ℕ → Model → Type 0
+Does model call number next = (outcomeNumber (step model call) ≡ number) × (after model (step model call) ≡ next)
+
+-- 01's sheet, call by call.
+pub record ExampleCalls : Type 0 where
+  pub opens : Does Closed (OpenMachine 4 4 1 1) 0 (exampleModel 0)
+  pub admits-1 : Does (exampleModel 0) (Admit 1 10 10) 0 (exampleModel 1)
+  pub admits-2 : Does (exampleModel 1) (Admit 2 9 10) 0 (exampleModel 2)
+  pub admits-3 : Does (exampleModel 2) (Admit 3 6 10) 0 (exampleModel 3)
+  pub admits-4 : Does (exampleModel 3) (Admit 4 5 10) 0 (exampleModel 4)
+  pub admits-5 : Does (exampleModel 4) (Admit 5 1 10) 0 (exampleModel 5)
+  pub refuses-6 : Does (exampleModel 5) (Admit 6 11 10) 17 (exampleModel 5)
+
 -- Rosters that keep every rule, and rosters that break one.
 pub record FormTrials : Type 0 where
   pub kept : map wellFormed (emptyRoster ∷ rosterWith (machine 1 3 1 1) (1 ∷ 8 ∷ 27 ∷ []) 1 (job 7 1 2 ∷ []) ∷ []) ≡ true ∷ true ∷ []
@@ -221,7 +280,13 @@ pub record FormTrials : Type 0 where
 
 pub record Planner : Type 0 where
   pub tests : TestRule
+  pub numbers : NumberRule
+  -- "With no machine it is all zeros …"
+  pub begins : rosterOf Closed ≡ emptyRoster
   pub forms : Forms
-  pub follows : (calls : List Call) → Follows calls
+  pub inspects : Inspects
+  pub one-call : OneCall
+  pub turns-down : TurnsDown
   pub call-trials : CallTrials
+  pub example-calls : ExampleCalls
   pub form-trials : FormTrials

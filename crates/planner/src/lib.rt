@@ -58,6 +58,10 @@ pub enum Refusal {
     PlacesFull,
     HyperperiodTooLong,
     NoPlan,
+    // of calls made as lines
+    Malformed,
+    // of calls that write on a page
+    NoRoom,
 }
 
 // What a call answers.
@@ -90,6 +94,8 @@ impl Refusal {
             Refusal::PlacesFull => 15,
             Refusal::HyperperiodTooLong => 16,
             Refusal::NoPlan => 17,
+            Refusal::Malformed => 5,
+            Refusal::NoRoom => 6,
         }
     }
 }
@@ -370,7 +376,7 @@ impl Roster {
             Verdict::TooLong => refuse(self, Refusal::HyperperiodTooLong),
             Verdict::NoPlan => refuse(self, Refusal::NoPlan),
             Verdict::SomePlan => {
-                let with_it = put_in(jobs, at, job);
+                let with_it = put_in(jobs, held, at, job);
                 let mut next = self;
                 next.held = self.held + 1;
                 next.jobs = with_it;
@@ -410,7 +416,7 @@ impl Roster {
         if !stands_at(jobs, held, at, id) {
             return refuse(self, Refusal::IdNotHeld);
         }
-        let without_it = take_out(jobs, at);
+        let without_it = take_out(jobs, held, at);
         let mut next = self;
         next.held = self.held - 1;
         next.jobs = without_it;

@@ -7,10 +7,16 @@ use Rattle.places.proofs.put_in.Statement.{statement}
 use Rattle.places.proofs.put_in.Tie as tie
 
 abbrev Inv-loop : tie.InvT-loop
-Inv-loop at places₀ carried₀ i₀ places carried i = Carrying at places₀ carried₀ places carried i
+Inv-loop held at end places₀ carried₀ i₀ places carried i = Carrying held at places₀ carried₀ places carried i
 
 abbrev μ-loop : tie.MeasureT-loop
-μ-loop at places₀ carried₀ i₀ places carried i = 64 - i
+μ-loop held at end places₀ carried₀ i₀ places carried i = end - i
+
+smaller-requires : tie.Need-smaller-requires Inv-loop μ-loop
+smaller-requires c κs = search needs
+
+add-end : tie.Need-add-end Inv-loop μ-loop
+add-end c = omega arith
 
 loop-holds : tie.Need-loop-holds Inv-loop μ-loop
 loop-holds c = carrying-starts (search needs) (omega arith)
@@ -46,6 +52,8 @@ put-in-spec =
     (tie.spec
     Inv-loop
     μ-loop
+    smaller-requires
+    add-end
     loop-holds
     mul-next
     array-copy-out-next

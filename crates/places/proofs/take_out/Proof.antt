@@ -7,13 +7,21 @@ use Rattle.places.proofs.take_out.Statement.{statement}
 use Rattle.places.proofs.take_out.Tie as tie
 
 abbrev Inv-loop : tie.InvT-loop
-Inv-loop at places₀ i₀ places i = Closing at places₀ places i
+Inv-loop held at end last places₀ i₀ places i = Closing held at places₀ places i
 
 abbrev μ-loop : tie.MeasureT-loop
-μ-loop at places₀ i₀ places i = 64 - i
+μ-loop held at end last places₀ i₀ places i = last - i
+
+smaller-requires : tie.Need-smaller-requires Inv-loop μ-loop
+smaller-requires c κs = search needs
 
 returns : tie.Need-returns Inv-loop μ-loop
-returns c = none-out (c .before .args .jobs) (c .before .args .at) (search needs) (omega arith)
+returns c =
+    let s = c .before .before in
+    none-out (s .args .jobs) (s .args .held) (s .args .at) (search needs) (omega arith)
+
+sub-last : tie.Need-sub-last Inv-loop μ-loop
+sub-last c = omega arith
 
 loop-holds : tie.Need-loop-holds Inv-loop μ-loop
 loop-holds c = closing-starts (search needs) (omega arith) (omega arith)
@@ -42,6 +50,9 @@ loop-less c = omega arith
 loop-again : tie.Need-loop-again Inv-loop μ-loop
 loop-again c = closing-turns (c .before .before .loop .inv) _ _ (omega arith) (omega arith) (omega arith) (omega arith)
 
+mul-places-2 : tie.Need-mul-places-2 Inv-loop μ-loop
+mul-places-2 c = omega arith
+
 array-set-from-places-2 : tie.Need-array-set-from-places-2 Inv-loop μ-loop
 array-set-from-places-2 c = omega arith
 
@@ -54,7 +65,9 @@ take-out-spec =
     (tie.spec
     Inv-loop
     μ-loop
+    smaller-requires
     returns
+    sub-last
     loop-holds
     add-next
     mul-next
@@ -64,5 +77,6 @@ take-out-spec =
     add-i
     loop-less
     loop-again
+    mul-places-2
     array-set-from-places-2
     returns-2)

@@ -1,27 +1,24 @@
 -- `places::unused_from` meets its contract. What the loop keeps is `Clearing`.
-use Prim.Native.Nat.{_-_, _<_}
+use Prim.Native.Nat.{_-_}
 use native.Mathlib.Omega.{arith}
-use mathlib.Core.Path.{_≡_, sym}
+use mathlib.Core.Path.{_≡_}
 use borrow.Author.Needs.{needs}
 use lib.ListN.{length}
-use Rattle.places.proofs.Turns.{Clearing, clearing-starts, clearing-ends, id-used, cost-used, period-used, clearing-turns}
+use Rattle.places.proofs.Turns.{Clearing, clearing-starts, clearing-ends, clearing-turns}
 use Rattle.places.proofs.unused_from.Statement.{statement}
 use Rattle.places.proofs.unused_from.Tie as tie
 
 abbrev Inv-loop : tie.InvT-loop
-Inv-loop start jobs i₀ i = Clearing jobs start i
+Inv-loop start jobs seen₀ i₀ seen i = Clearing jobs start seen i
 
 abbrev μ-loop : tie.MeasureT-loop
-μ-loop start jobs i₀ i = 64 - i
+μ-loop start jobs seen₀ i₀ seen i = 64 - i
 
 long : (c : tie.Start Inv-loop μ-loop) → length (c .args .t1) ≡ 64
 long c = search needs
 
-here : (c : tie.In-loop Inv-loop μ-loop) → c .before .loop .i < length (c .before .before .args .t1)
-here c = omega (arith, long (c .before .before))
-
 loop-holds : tie.Need-loop-holds Inv-loop μ-loop
-loop-holds c = clearing-starts (omega arith)
+loop-holds c = clearing-starts (omega arith) (omega arith)
 
 mul-place : tie.Need-mul-place Inv-loop μ-loop
 mul-place c = omega arith
@@ -29,20 +26,20 @@ mul-place c = omega arith
 array-copy-out-place : tie.Need-array-copy-out-place Inv-loop μ-loop
 array-copy-out-place c = omega arith
 
-returns : tie.Need-returns Inv-loop μ-loop
-returns c =
-    let i = c .before .before .before in
-    sym (id-used (i .before .loop .inv) (here i) (omega arith))
+cast-pair : tie.Need-cast-pair Inv-loop μ-loop
+cast-pair c = search needs
 
-returns-2 : tie.Need-returns-2 Inv-loop μ-loop
-returns-2 c =
-    let i = c .before .before .before .before .before in
-    sym (cost-used (i .before .loop .inv) (here i) (omega arith))
+cast-pair-2 : tie.Need-cast-pair-2 Inv-loop μ-loop
+cast-pair-2 c = search needs
 
-returns-3 : tie.Need-returns-3 Inv-loop μ-loop
-returns-3 c =
-    let i = c .before .before .before .before .before .before .before in
-    sym (period-used (i .before .loop .inv) (here i) (omega arith))
+mul-pair : tie.Need-mul-pair Inv-loop μ-loop
+mul-pair c = search needs
+
+add-pair : tie.Need-add-pair Inv-loop μ-loop
+add-pair c = search needs
+
+cast-seen : tie.Need-cast-seen Inv-loop μ-loop
+cast-seen c = search needs
 
 add-i : tie.Need-add-i Inv-loop μ-loop
 add-i c = omega arith
@@ -52,11 +49,11 @@ loop-less c = omega arith
 
 loop-again : tie.Need-loop-again Inv-loop μ-loop
 loop-again c =
-    let i = c .before .before .before .before .before .before .before in
-    clearing-turns (i .before .loop .inv) (here i) (omega arith) (omega arith) (omega arith) (omega arith)
+    let i = c .before .before .before .before in
+    clearing-turns (i .before .loop .inv) _ _ _ (omega (arith, long (i .before .before))) (omega arith) (omega arith) (omega arith) (omega arith)
 
-returns-4 : tie.Need-returns-4 Inv-loop μ-loop
-returns-4 c = sym (clearing-ends (c .before .loop .inv) (omega (arith, long (c .before .before))))
+returns : tie.Need-returns Inv-loop μ-loop
+returns c = clearing-ends (c .before .loop .inv) _ (omega (arith, long (c .before .before))) (omega arith)
 
 pub unused-from-spec : {M : Type 1} → statement M
 unused-from-spec =
@@ -67,10 +64,12 @@ unused-from-spec =
     loop-holds
     mul-place
     array-copy-out-place
-    returns
-    returns-2
-    returns-3
+    cast-pair
+    cast-pair-2
+    mul-pair
+    add-pair
+    cast-seen
     add-i
     loop-less
     loop-again
-    returns-4)
+    returns)

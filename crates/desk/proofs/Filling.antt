@@ -1,0 +1,95 @@
+-- A page filled line by line, as the code fills it.
+use Prim.Native.Nat.{ℕ, _+_, _≤_, _<_}
+use native.Mathlib.Omega.{arith}
+use mathlib.Core.Path.{_≡_, refl, sym, ap, ap₂, subst, _∙_}
+use mathlib.Core.Bool.{Bool, true, false}
+use mathlib.Core.Logic.{_⊎_, inl, inr}
+use mathlib.Core.List.{List, [], _∷_}
+use borrow.Author.Tests.{le-leb, lt-leb, lt-ltb, le-ltb, eq-eqb, ne-eqb}
+use lib.Dec.{eqb}
+use lib.ListN.{length, drop}
+use Rattle.hexadecimal.specs.Text.{lineOf}
+use Rattle.frame_writer.specs.Frames.{refusalBytes}
+use Rattle.planner.specs.declared.Roster.{Roster}
+use Rattle.planner.specs.declared.Answer.{Answer}
+use Rattle.planner.specs.declared.Answer.the-variants.{Accepted, Refused}
+use Rattle.planner.specs.declared.Refusal.{Refusal}
+use Rattle.planner.specs.Calls.{refusalNumber, numberOf}
+use Rattle.planner.proofs.Results.{planner}
+use Rattle.filing.specs.Plans.{Filed, putOn, planReply}
+use Rattle.filing.proofs.Results.{files}
+use Rattle.desk.specs.declared.LineAnswer.{LineAnswer}
+use Rattle.desk.specs.declared.Desk.{Desk}
+use Rattle.desk.specs.Lines.{Asked, malformed, change, plan, asked, LineReply, answeredOn, replyAs, lineReply}
+use Rattle.desk.specs.Pages.{Lined, settled, Filling, filledOn, fillTooLong}
+
+-- ---- A sheet too long
+
+module _ (desk : Desk) (size : ℕ) (page : List ℕ) where
+  pub too-long-past : size ≤ desk .at → filledOn record { desk = desk; end = 0 } page ≡ fillTooLong desk size page
+  unfolding fillTooLong
+  too-long-past h = rw (le-ltb (desk .at) size h, fillTooLong)
+
+  pub too-long-small : desk .at < size → length page < 89 → filledOn record { desk = desk; end = 0 } page ≡ fillTooLong desk size page
+  unfolding fillTooLong
+  too-long-small h s = rw (lt-ltb (desk .at) size h, lt-leb 89 (length page) s, fillTooLong)
+
+  pub too-long-put : desk .at < size → 89 ≤ length page → (number line : ℕ) → line ≡ 0 → number ≡ 5
+      → (count : ℕ) (exit : List ℕ) → count ≡ putOn page 0 (lineOf (refusalBytes line number)) .count
+      → exit ≡ putOn page 0 (lineOf (refusalBytes line number)) .page
+      → filledOn record { desk = record { roster = desk .roster; at = size; line = desk .line }; end = count } exit ≡ fillTooLong desk size page
+  unfolding fillTooLong
+  too-long-put h s number line l n count exit e f =
+      rw (lt-ltb (desk .at) size h, le-leb 89 (length page) s, fillTooLong)
+      (ap₂ (λ (k : ℕ) (q : List ℕ). record { desk = record { roster = desk .roster; at = size; line = desk .line }; page = q; end = k }) e f
+      ∙ ap₂ (λ (a b : ℕ). record {
+        desk = record { roster = desk .roster; at = size; line = desk .line };
+        page = putOn page 0 (lineOf (refusalBytes a b)) .page;
+        end = putOn page 0 (lineOf (refusalBytes a b)) .count;
+      }) l n)
+
+-- ---- One line
+
+module _ (number place : ℕ) (answer : Answer) (count : ℕ) (page : List ℕ) where
+  abbrev reply : ℕ → Roster → LineReply
+  reply n r = record { number = n; roster = r; page = page; count = count }
+
+  pub settled-accepted : answer ≡ Accepted → (r : Roster)
+      → record { roster = r; page = page; end = place + count } ≡ settled number place (reply (numberOf answer) r)
+  settled-accepted a r = rw (eq-eqb (numberOf answer) 0 (ap numberOf a ∙ planner .numbers .accepted), settled)
+
+  refused-as : (n : ℕ) → (n ≡ 0 → ⊥) → (r : Roster)
+      → record {
+        roster = r;
+        page = putOn page place (lineOf (refusalBytes number n)) .page;
+        end = place + putOn page place (lineOf (refusalBytes number n)) .count;
+      }
+      ≡ settled number place (reply n r)
+  refused-as n h r = rw (ne-eqb n 0 h, settled)
+
+  pub settled-refused : (refusal : Refusal) → answer ≡ Refused refusal → (given written : ℕ) (exit : List ℕ) → given ≡ refusalNumber refusal
+      → written ≡ putOn page place (lineOf (refusalBytes number given)) .count → exit ≡ putOn page place (lineOf (refusalBytes number given)) .page
+      → (r : Roster) → record { roster = r; page = exit; end = place + written } ≡ settled number place (reply (numberOf answer) r)
+  settled-refused refusal a given written exit g n p r =
+      let is = ap numberOf a ∙ planner .numbers .refused refusal in
+      ap₂ (λ (k : ℕ) (q : List ℕ). record { roster = r; page = q; end = place + k }) n p
+      ∙ ap (λ (k : ℕ). record {
+        roster = r;
+        page = putOn page place (lineOf (refusalBytes number k)) .page;
+        end = place + putOn page place (lineOf (refusalBytes number k)) .count;
+      }) (g ∙ sym is)
+      ∙ refused-as (numberOf answer) (λ z. planner .numbers .never-0 refusal (sym is ∙ z)) r
+
+-- What a line's call writes ends on the page.
+pub reply-fits : (r : Roster) (ask : Asked) (page : List ℕ) (place : ℕ)
+    → (replyAs r ask page place .count ≡ 0) ⊎ (place + replyAs r ask page place .count ≤ length page)
+unfolding replyAs
+reply-fits r malformed page place = inl refl
+reply-fits r (change call) page place = inl refl
+reply-fits r plan page place = files .reply-rule r page place .fits
+
+pub made-fits : (r : Roster) (line page : List ℕ) (place : ℕ) (made : LineAnswer) (exit : List ℕ) → answeredOn made exit ≡ lineReply r line page place
+    → (made .count ≡ 0) ⊎ (place + made .count ≤ length page)
+unfolding lineReply
+made-fits r line page place made exit e =
+    subst (λ (q : LineReply). (q .count ≡ 0) ⊎ (place + q .count ≤ length page)) (sym e) (reply-fits r (asked line) page place)

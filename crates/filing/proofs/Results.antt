@@ -1,0 +1,168 @@
+-- The claims of the plan call, proved.
+use Prim.Native.Nat.{ℕ, zero, suc, _+_, _*_, _≤_, _<_}
+use native.Mathlib.Decide.{decLt}
+use native.Mathlib.Omega.{arith}
+use mathlib.Core.Path.{_≡_, refl, sym, ap, subst, _∙_}
+use mathlib.Core.Bool.{Bool, true, false}
+use mathlib.Core.Logic.{_⊎_, inl, inr}
+use mathlib.Core.List.{List, [], _∷_, _++_, map}
+use lib.ListN.{length, take, drop}
+use Rattle.gmf.specs.declared.Machine.{Machine}
+use Rattle.gmf.specs.declared.Job.{Job}
+use Rattle.gmf.specs.Growing.{Growth, Grown, NoPlan, planOf}
+use Rattle.gmf.specs.Jobs.{hyperperiod, works}
+use Rattle.gmf.specs.Capacity.{sum, level}
+use Rattle.gmf.specs.Power.{power, powerLimit, total}
+use Rattle.gmf.specs.Claims.{Least}
+use Rattle.gmf.proofs.Results.{method}
+use Rattle.planner.specs.declared.Roster.{Roster}
+use Rattle.planner.specs.Model.{Model, Closed, Opened}
+use Rattle.planner.specs.Roster.{modelOf, rosterOf, wellFormed}
+use Rattle.planner.specs.Claims.{Kept}
+use Rattle.planner.proofs.Results.{planner}
+use Rattle.filing.specs.Plans.{Filed, putOn, planLine, filedAs, filedOn, filed, planReply}
+use Rattle.filing.specs.Claims.{frameLength, FiledPlan, ReplyRule, FileRule, FilesClosed, Files}
+use Rattle.filing.proofs.AcceptanceTrials.{trials}
+use Rattle.filing.proofs.Written.{put-room, put-no-room, put-fits, put-as-lent, put-length, line-size}
+use Rattle.filing.proofs.Sound.{grown}
+use Rattle.filing.proofs.Replies.{well, damaged}
+
+-- ---- Sums of numbers that are not too large
+
+Most : ℕ → List ℕ → Type 0
+Most most [] = Unit {0}
+Most most (x ∷ xs) = (x ≤ most) × Most most xs
+
+sum-most : (most : ℕ) (xs : List ℕ) → Most most xs → sum xs ≤ length xs * most
+unfolding Most
+sum-most most [] few = omega arith
+sum-most most (x ∷ xs) (h, few) = let others = sum-most most xs few in omega arith
+
+map-most : (most : ℕ) (f : ℕ → ℕ) → ((k : ℕ) → f k ≤ most) → (xs : List ℕ) → Most most (map f xs)
+unfolding Most
+map-most most f h [] = tt
+map-most most f h (x ∷ xs) = (h x, map-most most f h xs)
+
+levels-most : (most : ℕ) (xs : List ℕ) → ((k : ℕ) → level xs k ≤ most) → Most most xs
+unfolding Most
+levels-most most [] h = tt
+levels-most most (x ∷ xs) h = (h 0, levels-most most xs (λ k. h (suc k)))
+
+as-many : (f : ℕ → ℕ) (xs : List ℕ) → length (map f xs) ≡ length xs
+as-many f [] = refl
+as-many f (x ∷ xs) = ap suc (as-many f xs)
+
+past-end : (xs : List ℕ) (k : ℕ) → length xs ≤ k → level xs k ≡ 0
+past-end [] k h = refl
+past-end (x ∷ xs) zero h = absurd (omega arith)
+past-end (x ∷ xs) (suc k) h = past-end xs k (omega arith)
+
+-- ---- The plan that is filed
+
+module _ (M : Machine) (table : List ℕ) (jobs : List Job) (kept : Kept (Opened M table jobs)) (plan : List ℕ) (raises : ℕ) (e : planOf M jobs ≡ Grown plan raises) where
+  abbrev line : List ℕ
+  line = planLine table jobs plan raises
+
+  size : length line ≡ frameLength (M .processors)
+  size = line-size table jobs plan raises ∙ ap frameLength (method .plans-jobs M (kept .0 .machine-range .processors .0) (kept .0 .machine-range .levels .0) jobs .found plan raises e .is-plan .size)
+
+  is-filed : (page : List ℕ) (place : ℕ) → filed (Opened M table jobs) page place ≡ putOn page place line
+  unfolding filed filedOn filedAs
+  is-filed page place = ap (λ (g : Growth). filedAs table jobs g page place) e
+
+  least : Least M (hyperperiod jobs) (works jobs) plan raises
+  least = method .plans-jobs M (kept .0 .machine-range .processors .0) (kept .0 .machine-range .levels .0) jobs .found plan raises e
+
+  levels-few : (k : ℕ) → level plan k ≤ 31
+  levels-few k = go (decLt k (M .processors))
+    where
+      go : Dec (k < M .processors) → level plan k ≤ 31
+      go (yes h) = omega (arith, least .is-plan .within k h, kept .0 .machine-range .levels)
+      go (no h) = let none : level plan k ≡ 0 = past-end plan k (omega (arith, least .is-plan .size)) in omega arith
+
+  in-bytes : (k : ℕ) → level plan k < 256
+  in-bytes k = omega (arith, levels-few k)
+
+  powers-few : (k : ℕ) → power table k ≤ powerLimit
+  powers-few k = go (decLt k (M .levels))
+    where
+      go : Dec (k < M .levels) → power table k ≤ powerLimit
+      go (yes h) = kept .0 .table-rules .range k h
+      go (no h) = let none : power table k ≡ 0 = past-end table k (omega (arith, kept .0 .table-rules .size)) in omega arith
+
+  -- 32 processors draw at most 32 times the largest power, and have at most 31 raises each.
+  in-fields : (length jobs < 256) × (hyperperiod jobs < 4294967296) × (total table plan < 4294967296) × (raises < 65536)
+  unfolding total
+  in-fields =
+      let m = kept .0 .machine-range .processors in
+      let size = least .is-plan .size in
+      let drawn = sum-most 16777216 (map (power table) plan) (map-most 16777216 (power table) powers-few plan) in
+      let raised = sum-most 31 plan (levels-most 31 plan levels-few) in (
+        omega (arith, kept .1),
+        omega (arith, kept .0 .within-limit),
+        omega (arith, drawn, as-many (power table) plan, size, m),
+        omega (arith, raised, least .counted, size, m),
+      )
+
+  filed-plan : FiledPlan M table jobs plan raises
+  filed-plan =
+      let p = method .plans-jobs M (kept .0 .machine-range .processors .0) (kept .0 .machine-range .levels .0) jobs in
+      record {
+        grown = e;
+        least = p .found plan raises e;
+        cheapest = p .cheapest plan raises e;
+        frame = unfold planLine in refl;
+        in-fields = in-fields;
+        in-bytes = in-bytes;
+        size = size;
+        written = λ page place h.
+            is-filed page place
+            ∙ put-room page place line (subst (λ (n : ℕ). place + n ≤ length page) (sym size) h)
+            ∙ ap (λ (n : ℕ). record { number = 0; page = take place page ++ (line ++ drop (place + n) page); count = n }) size;
+        no-room = λ page place n.
+            is-filed page place ∙ put-no-room page place line (λ h. n (subst (λ (k : ℕ). place + k ≤ length page) size h));
+      }
+
+file-rule : (model : Model) → Kept model → FileRule model
+file-rule model kept = record {
+  follows = λ page place.
+      let rule = planner .one-call model kept in
+      well (rosterOf model) (rule .well-formed) page place ∙ ap (λ (m : Model). filed m page place) (rule .carried);
+  plan = λ M table jobs e.
+      let open-kept = subst Kept e kept in
+      let found = grown M (open-kept .0 .machine-range) jobs (open-kept .0 .some-plan) in
+      (found .0, found .1, filed-plan M table jobs open-kept (found .0) (found .1) (found .2));
+}
+
+-- Every way to reply.
+abbrev Fits : List ℕ → ℕ → Filed → Type 0
+Fits page place f =
+    ((f .count ≡ 0) ⊎ (place + f .count ≤ length page)) × (length (f .page) ≡ length page) × ((f .number ≡ 0 → ⊥) → f .page ≡ page)
+
+fits-as : (table : List ℕ) (jobs : List Job) (g : Growth) (page : List ℕ) (place : ℕ) → Fits page place (filedAs table jobs g page place)
+unfolding filedAs
+fits-as table jobs (Grown plan raises) page place = (
+  put-fits page place (planLine table jobs plan raises),
+  put-length page place (planLine table jobs plan raises),
+  put-as-lent page place (planLine table jobs plan raises),
+)
+fits-as table jobs NoPlan page place = (inl refl, refl, λ n. refl)
+
+fits-on : (model : Model) (page : List ℕ) (place : ℕ) → Fits page place (filed model page place)
+unfolding filed filedOn
+fits-on Closed page place = (inl refl, refl, λ n. refl)
+fits-on (Opened M table jobs) page place = fits-as table jobs (planOf M jobs) page place
+
+reply-rule : (r : Roster) (page : List ℕ) (place : ℕ) → ReplyRule r page place
+reply-rule r page place = let both = go (wellFormed r) refl in record { fits = both .0; same-length = both .1; as-lent = both .2 }
+  where
+    go : (b : Bool) → wellFormed r ≡ b → Fits page place (planReply r page place)
+    go true e = subst (Fits page place) (sym (well r e page place)) (fits-on (modelOf r) page place)
+    go false e = subst (Fits page place) (sym (damaged r e page place)) (inl refl, refl, λ n. refl)
+
+closed : FilesClosed
+unfolding filed
+closed page place = ap (λ (n : ℕ). record { number = n; page = page; count = 0 }) (planner .numbers .no-machine)
+
+pub files : Files
+files = record { files-closed = closed; reply-rule = reply-rule; file-rule = file-rule; trials = trials }
