@@ -3,7 +3,7 @@ use Prim.Native.Nat.{ℕ, suc, _≤_}
 use native.Mathlib.Omega.{arith}
 use mathlib.Core.Path.{_≡_, refl, sym, ap, _∙_}
 use mathlib.Core.Bool.{false}
-use mathlib.Core.List.{List, [], _∷_, _++_, append-nil, map}
+use mathlib.Core.List.{List, [], _∷_, _++_, append-nil}
 use borrow.Author.Tests.{le-leb}
 use lib.ListN.{length, take, drop, replicate}
 use Rattle.hexadecimal.specs.Text.{digitOf, digitsOf, lineOf, valueOf, byteBefore, endOf, textOf}
@@ -30,25 +30,31 @@ use Rattle.desk.proofs.Hosting.{host-rule}
 -- ---- A line's reply at the desk
 
 module _ (model : Model) (line : List ℕ) (calls : List Call) where
+  as-asked : (ask : Asked) → asked line ≡ ask
+      → replies onModel model (Line line blank 0 ∷ calls)
+      ≡ record { number = readAs model ask blank 0 .number; page = readAs model ask blank 0 .page } ∷ replies onModel (readAs model ask blank 0 .next) calls
+  unfolding replies onModel
+  as-asked ask = ap (λ (q : Asked). record { number = readAs model q blank 0 .number; page = readAs model q blank 0 .page } ∷ replies onModel (readAs model q blank 0 .next) calls)
+
   by-change : (call : planner.Call) (number : ℕ) (next : Model) → asked line ≡ change call → Does model call number next
       → replies onModel model (Line line blank 0 ∷ calls) ≡ record { number = number; page = blank } ∷ replies onModel next calls
-  unfolding replies onModel readAs changed
+  unfolding readAs changed
   by-change call number next a does =
-      ap (λ (q : Asked). record { number = readAs model q blank 0 .number; page = readAs model q blank 0 .page } ∷ replies onModel (readAs model q blank 0 .next) calls) a
+      as-asked (change call) a
       ∙ ap (λ (n : ℕ). record { number = n; page = blank } ∷ replies onModel (changed model call blank .next) calls) (does .0)
       ∙ ap (λ (m : Model). record { number = number; page = blank } ∷ replies onModel m calls) (does .1)
 
   by-plan : (f : Filed) → asked line ≡ plan → filed model blank 0 ≡ f
       → replies onModel model (Line line blank 0 ∷ calls) ≡ record { number = f .number; page = f .page } ∷ replies onModel model calls
-  unfolding replies onModel readAs planned
+  unfolding readAs planned
   by-plan f a e =
-      ap (λ (q : Asked). record { number = readAs model q blank 0 .number; page = readAs model q blank 0 .page } ∷ replies onModel (readAs model q blank 0 .next) calls) a
+      as-asked plan a
       ∙ ap (λ (g : Filed). record { number = g .number; page = g .page } ∷ replies onModel model calls) e
 
   by-none : asked line ≡ malformed → replies onModel model (Line line blank 0 ∷ calls) ≡ record { number = 5; page = blank } ∷ replies onModel model calls
-  unfolding replies onModel readAs
+  unfolding readAs
   by-none a =
-      ap (λ (q : Asked). record { number = readAs model q blank 0 .number; page = readAs model q blank 0 .page } ∷ replies onModel (readAs model q blank 0 .next) calls) a
+      as-asked malformed a
       ∙ ap (λ (n : ℕ). record { number = n; page = blank } ∷ replies onModel model calls) (laws .numbers .malformed)
 
 unwritten : ℕ → Reply
@@ -188,12 +194,12 @@ unfolding refusedLine exampleSheet walked
 example-line = ap (λ (v : Walked). v .line) example-walked
 
 -- A sheet of one line, by its reply.
-one-line : (sheet line : List ℕ) (reply : Reply) → linesOf sheet ≡ line ∷ [] → length sheet ≤ 65536 → replies onModel Closed (Line line blank 0 ∷ []) ≡ reply ∷ []
+one-line : (sheet line : List ℕ) (reply : Reply) → deskCalls sheet ≡ Line line blank 0 ∷ [] → length sheet ≤ 65536 → replies onModel Closed (Line line blank 0 ∷ []) ≡ reply ∷ []
     → deskSheet sheet ≡ output 1 reply
-unfolding deskSheet deskCalls outputs
+unfolding deskSheet outputs
 one-line sheet line reply l h e =
     rw (le-leb (length sheet) 65536 h, deskSheet)
-    (ap (λ ls. outputs 1 (replies onModel Closed (map (λ line. Line line blank 0) ls))) l ∙ ap (outputs 1) e ∙ append-nil (output 1 reply))
+    (ap (λ (calls : List Call). outputs 1 (replies onModel Closed calls)) l ∙ ap (outputs 1) e ∙ append-nil (output 1 reply))
 
 alone : (line : List ℕ) (reply : Reply) → replies onModel Closed (Line line blank 0 ∷ []) ≡ reply ∷ replies onModel Closed []
     → replies onModel Closed (Line line blank 0 ∷ []) ≡ reply ∷ []
@@ -201,17 +207,17 @@ unfolding replies
 alone line reply e = e
 
 -- A malformed line, and 05 with no machine.
-unread-output : (sheet line : List ℕ) → linesOf sheet ≡ line ∷ [] → length sheet ≤ 65536 → asked line ≡ malformed → deskSheet sheet ≡ lineOf (refusalBytes 1 5)
+unread-output : (sheet line : List ℕ) → deskCalls sheet ≡ Line line blank 0 ∷ [] → length sheet ≤ 65536 → asked line ≡ malformed → deskSheet sheet ≡ lineOf (refusalBytes 1 5)
 unfolding output
 unread-output sheet line l h a = one-line sheet line record { number = 5; page = blank } l h (alone line _ (by-none Closed line [] a))
 
-closed-output : (sheet line : List ℕ) → linesOf sheet ≡ line ∷ [] → length sheet ≤ 65536 → asked line ≡ plan → deskSheet sheet ≡ lineOf (refusalBytes 1 11)
+closed-output : (sheet line : List ℕ) → deskCalls sheet ≡ Line line blank 0 ∷ [] → length sheet ≤ 65536 → asked line ≡ plan → deskSheet sheet ≡ lineOf (refusalBytes 1 11)
 unfolding output
 closed-output sheet line l h a =
     one-line sheet line record { number = 11; page = blank } l h (alone line _ (by-plan Closed line [] _ a (files .files-closed blank 0)))
 
 pub sheet-trials : SheetTrials
-unfolding exampleSheet joined linesOf valueOf byteBefore endOf textOf kindOf rightLength widthsIn numberAt numbersFrom saidAs saidWith saidIn saidBy besideOf readingOf askedBy asked digitOf digitsOf lineOf
+unfolding exampleSheet joined linesOf deskCalls valueOf byteBefore endOf textOf kindOf rightLength widthsIn numberAt numbersFrom saidAs saidWith saidIn saidBy besideOf readingOf askedBy asked digitOf digitsOf lineOf
 sheet-trials = record {
   example = example-output;
   empty = nothing;

@@ -22,7 +22,7 @@ use Rattle.desk.specs.Lines.{Asked, malformed, change, plan, askedBy, as
 use Rattle.desk.specs.Calls.{Call, Change, Plan, Line, Done, onModel, onRoster, replies, end}
 use Rattle.desk.specs.Claims.{AskRule, WantsPlan, Offers, FiledNext, Demand3}
 use Rattle.desk.specs.Claims as claims
-use Rattle.desk.proofs.Following.{list-replies, list-end, list-kept}
+use Rattle.desk.proofs.Following.{never-7, list-replies, list-end, list-kept}
 
 -- ---- What a line asks for
 
@@ -115,6 +115,7 @@ module _ (calls : List Call) where
     carries = ap modelOf ends ∙ planner .one-call book book-kept .carried;
     kept = book-kept;
     well-formed = ap wellFormed ends ∙ planner .one-call book book-kept .well-formed;
+    never-7 = λ call e. never-7 book book-kept call (ap (λ (r : Roster). onRoster r call .number) (sym ends) ∙ e);
     filed-next = λ M table jobs e.
         subst (λ (r : Roster). FiledNext r M table jobs) (at-end M table jobs e) (filed-next M table jobs (open-kept M table jobs e));
     turned-down = λ M table jobs e new offered call offers.

@@ -1,5 +1,6 @@
 -- A call on the roster of a model that keeps the rules follows the model; so does every list of calls.
 use Prim.Native.Nat.{ℕ}
+use native.Mathlib.Omega.{arith}
 use mathlib.Core.Path.{_≡_, refl, sym, ap, ap₂, _∙_}
 use mathlib.Core.List.{List, [], _∷_}
 use Rattle.frame_writer.specs.Page.{Reply}
@@ -48,6 +49,23 @@ module _ (model : Model) (kept : Kept model) where
       let e = files .file-rule model kept .follows page place in
       record { number = ap (λ (f : Filed). f .number) e; page = ap (λ (f : Filed). f .page) e; next = refl; kept = kept }
   call-follows (Line line page place) = line-follows (asked line) page place
+
+-- ---- No refusal by 7
+
+read-not-7 : (model : Model) → Kept model → (ask : Asked) (page : List ℕ) (place : ℕ) → readAs model ask page place .number ≡ 7 → ⊥
+unfolding readAs changed planned
+read-not-7 model kept malformed page place e = omega (arith, planner .numbers .malformed)
+read-not-7 model kept (change call) page place e = planner .one-call model kept .never-7 call e
+read-not-7 model kept plan page place e = files .file-rule model kept .never-7 page place e
+
+call-not-7 : (model : Model) → Kept model → (call : Call) → onModel model call .number ≡ 7 → ⊥
+unfolding onModel changed planned
+call-not-7 model kept (Change call) e = planner .one-call model kept .never-7 call e
+call-not-7 model kept (Plan page place) e = files .file-rule model kept .never-7 page place e
+call-not-7 model kept (Line line page place) e = read-not-7 model kept (asked line) page place e
+
+pub never-7 : (model : Model) → Kept model → (call : Call) → onRoster (rosterOf model) call .number ≡ 7 → ⊥
+never-7 model kept call e = call-not-7 model kept call (sym (call-follows model kept call .number) ∙ e)
 
 -- ---- A list of calls
 

@@ -24,6 +24,19 @@ use Rattle.desk.specs.Pages.{nextLine, Lined, settled, deskLine, Filling
 use Rattle.desk.specs.Claims.{PageRule}
 use Rattle.desk.proofs.Filling.{reply-fits, too-long-past, too-long-small, too-long-put}
 
+-- ---- The next line of a sheet
+
+module _ (sheet : List ℕ) (at : ℕ) (inside : at < length sheet) where
+  -- Its end is within the sheet, …
+  pub next-within : (next : ℕ) → next ≡ lineEnd sheet at → (at < next) × (next ≤ length sheet)
+  next-within next e = let f = reads .line-rule sheet .further at inside in (omega (arith, f .0), omega (arith, f .1))
+
+  -- … and so many bytes on.
+  pub line-size : at + length (take (lineEnd sheet at - at) (drop at sheet)) ≡ lineEnd sheet at
+  line-size =
+      let f = next-within (lineEnd sheet at) refl in
+      omega (arith, f .0, length-take-le (lineEnd sheet at - at) (drop at sheet) (simp length-drop (omega (arith, f .0, f .1))))
+
 -- ---- A line keeps to its page
 
 reply-length : (r : Roster) (ask : Asked) (page : List ℕ) (place : ℕ) → length (replyAs r ask page place .page) ≡ length page
@@ -154,11 +167,6 @@ module _ (desk : Desk) (sheet page₀ : List ℕ) where
           ∙ rw (lt-leb (end + 89) (length page) (omega (arith, so-far .room)), fillLines)
           )
 
-      first-length : at + length first ≡ next
-      first-length =
-          let f = reads .line-rule sheet .further at inside in
-          omega (arith, length-take-le (next - at) (drop at sheet) (simp length-drop (omega (arith, f))), f)
-
       pub fill-more : 89 ≤ length page - end → (next′ : ℕ) (roster′ : Roster) (end′ : ℕ) (page′ : List ℕ) (line′ : ℕ) → next′ ≡ next
           → record { roster = roster′; page = page′; end = end′ } ≡ deskLine roster line (take (next′ - at) (drop at sheet)) page end
           → line′ ≡ (line + 1) % 4294967296 → length page′ ≡ length page
@@ -172,7 +180,7 @@ module _ (desk : Desk) (sheet page₀ : List ℕ) where
                 ∙ ap (λ ls. fillLines record { roster = roster; at = at; line = line } ls page end) split
                 ∙ fill-line record { roster = roster; at = at; line = line } first (linesOf (drop next sheet)) page end (omega (arith, so-far .room))
                 ∙ ap (λ (q : Lined). fillLines record { roster = q .roster; at = at + length first; line = nextLine line } (linesOf (drop next sheet)) (q .page) (q .end)) (sym lined)
-                ∙ ap₂ (λ (a k : ℕ). fillLines record { roster = roster′; at = a; line = k } (linesOf (drop next sheet)) page′ end′) (first-length ∙ sym n) number
+                ∙ ap₂ (λ (a k : ℕ). fillLines record { roster = roster′; at = a; line = k } (linesOf (drop next sheet)) page′ end′) (line-size sheet at inside ∙ sym n) number
                 ∙ ap (λ (k : ℕ). fillLines record { roster = roster′; at = next′; line = line′ } (linesOf (drop k sheet)) page′ end′) (sym n);
             room =
                 let fits = lined-fits roster line first page end (so-far .room) in
@@ -198,15 +206,6 @@ too-long-keeps desk size page = go (decLt (desk .at) size) (decLe 89 (length pag
           same-length = put-length page 0 (lineOf (refusalBytes 0 5));
           forward = omega arith;
         }
-
-first-some : (desk : Desk) (sheet : List ℕ) → desk .at < length sheet → 0 < length (take (lineEnd sheet (desk .at) - desk .at) (drop (desk .at) sheet))
-first-some desk sheet inside =
-    let f = reads .line-rule sheet .further (desk .at) inside in
-    omega (
-      arith,
-      length-take-le (lineEnd sheet (desk .at) - desk .at) (drop (desk .at) sheet) (simp length-drop (omega (arith, f .0, f .1))),
-      f .0,
-    )
 
 too-long-further : (desk : Desk) (size : ℕ) (page : List ℕ) → desk .at < size → 89 ≤ length page → {filling : Filling} → filling ≡ fillTooLong desk size page
     → desk .at < filling .desk .at
@@ -243,8 +242,7 @@ module _ (desk : Desk) (sheet page : List ℕ) where
           ∙ fill-line desk first rest page 0 (omega arith) in
           let on = lines-keep (after desk first rest page 0) rest (lined desk first rest page 0 .page) (lined desk first rest page 0 .end)
           (omega (arith, lined-fits (desk .roster) (desk .line) first page 0 (omega arith), lined-length (desk .roster) (desk .line) first page 0)) .forward in
-          let some = first-some desk sheet inside in
-          omega (arith, ap (λ (f : Filling). f .desk .at) same)
+          omega (arith, line-size sheet (desk .at) inside, next-within sheet (desk .at) inside (lineEnd sheet (desk .at)) refl .0, ap (λ (f : Filling). f .desk .at) same)
       go (no h) = too-long-further desk (length sheet) page inside room (page-too-long (omega arith))
 
   pub page-rule : PageRule desk sheet page

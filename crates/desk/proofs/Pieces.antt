@@ -38,7 +38,7 @@ use Rattle.desk.specs.Claims.{DeskRule}
 use Rattle.desk.proofs.Blank.{on-line}
 use Rattle.desk.proofs.Filling.{too-long-past, too-long-small, too-long-put}
 use Rattle.desk.proofs.Following.{line-follows}
-use Rattle.desk.proofs.Pages.{fill-line, fill-stop, lined-fits, lined-length, page-allowed, page-too-long}
+use Rattle.desk.proofs.Pages.{line-size, fill-line, fill-stop, lined-fits, lined-length, page-allowed, page-too-long}
 use Rattle.desk.proofs.Demand.{demand-3}
 
 -- ---- One line
@@ -190,16 +190,9 @@ module _ (sheet : List ℕ) where
       go (yes inside) =
           let next = lineEnd sheet at in
           let split = reads .line-rule sheet .next at inside in
-          let further = reads .line-rule sheet .further at inside in
           let first : take (next - at) (drop at sheet) ≡ line = cc in
           let others : linesOf (drop next sheet) ≡ lines = cc in
-          let size : at + length line ≡ next =
-          omega (
-            arith,
-            ap length first,
-            length-take-le (next - at) (drop at sheet) (simp length-drop (omega (arith, further .0, further .1))),
-            further .0,
-          ) in
+          let size : at + length line ≡ next = ap (λ (l : List ℕ). at + length l) (sym first) ∙ line-size sheet at inside in
           ap (λ (k : ℕ). linesOf (drop k sheet)) size ∙ others
       go (no past) =
           let none = reads .line-rule sheet .none at (omega arith) .0 in

@@ -78,6 +78,7 @@ pub record Demand3 (calls : List Call) : Type 0 where
   pub carries : modelOf (end onRoster emptyRoster calls) ≡ end onModel Closed calls
   pub kept : Kept (end onModel Closed calls)
   pub well-formed : wellFormed (end onRoster emptyRoster calls) ≡ true
+  pub never-7 : (call : Call) → onRoster (end onRoster emptyRoster calls) call .number ≡ 7 → ⊥
   -- "After every such list, on an open machine, the plan filed next …"
   pub filed-next : (M : Machine) (table : List ℕ) (jobs : List Job) → end onModel Closed calls ≡ Opened M table jobs
       → FiledNext (end onRoster emptyRoster calls) M table jobs

@@ -1,6 +1,6 @@
 -- The claims of the plan call, proved.
 use Prim.Native.Nat.{ℕ, zero, suc, _+_, _*_, _≤_, _<_}
-use native.Mathlib.Decide.{decLt}
+use native.Mathlib.Decide.{decLe, decLt}
 use native.Mathlib.Omega.{arith}
 use mathlib.Core.Path.{_≡_, refl, sym, ap, subst, _∙_}
 use mathlib.Core.Bool.{Bool, true, false}
@@ -123,8 +123,29 @@ module _ (M : Machine) (table : List ℕ) (jobs : List Job) (kept : Kept (Opened
             is-filed page place ∙ put-no-room page place line (λ h. n (subst (λ (k : ℕ). place + k ≤ length page) size h));
       }
 
+-- ---- On every model that calls can make
+
+closed : FilesClosed
+unfolding filed
+closed page place = ap (λ (n : ℕ). record { number = n; page = page; count = 0 }) (planner .numbers .no-machine)
+
+not-7 : (model : Model) → Kept model → (page : List ℕ) (place : ℕ) → filed model page place .number ≡ 7 → ⊥
+not-7 Closed kept page place e = omega (arith, ap (λ (f : Filed). f .number) (closed page place))
+not-7 (Opened M table jobs) kept page place e = go (decLe (place + frameLength (M .processors)) (length page))
+  where
+    found : (plan : List ℕ) × (raises : ℕ) × (planOf M jobs ≡ Grown plan raises)
+    found = grown M (kept .0 .machine-range) jobs (kept .0 .some-plan)
+
+    filed-one : FiledPlan M table jobs (found .0) (found .1)
+    filed-one = filed-plan M table jobs kept (found .0) (found .1) (found .2)
+
+    go : Dec (place + frameLength (M .processors) ≤ length page) → ⊥
+    go (yes h) = omega (arith, ap (λ (f : Filed). f .number) (filed-one .written page place h))
+    go (no n) = omega (arith, ap (λ (f : Filed). f .number) (filed-one .no-room page place n))
+
 file-rule : (model : Model) → Kept model → FileRule model
 file-rule model kept = record {
+  never-7 = not-7 model kept;
   follows = λ page place.
       let rule = planner .one-call model kept in
       well (rosterOf model) (rule .well-formed) page place ∙ ap (λ (m : Model). filed m page place) (rule .carried);
@@ -159,10 +180,6 @@ reply-rule r page place = let both = go (wellFormed r) refl in record { fits = b
     go : (b : Bool) → wellFormed r ≡ b → Fits page place (planReply r page place)
     go true e = subst (Fits page place) (sym (well r e page place)) (fits-on (modelOf r) page place)
     go false e = subst (Fits page place) (sym (damaged r e page place)) (inl refl, refl, λ n. refl)
-
-closed : FilesClosed
-unfolding filed
-closed page place = ap (λ (n : ℕ). record { number = n; page = page; count = 0 }) (planner .numbers .no-machine)
 
 pub files : Files
 files = record { files-closed = closed; reply-rule = reply-rule; file-rule = file-rule; trials = trials }

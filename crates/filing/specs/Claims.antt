@@ -62,11 +62,13 @@ pub record ReplyRule (r : Roster) (page : List ℕ) (place : ℕ) : Type 0 where
 pub record FileRule (model : Model) : Type 0 where
   -- The call on the model's roster replies what it does on the model.
   pub follows : (page : List ℕ) (place : ℕ) → planReply (rosterOf model) page place ≡ filed model page place
+  -- … and never by 7.
+  pub never-7 : (page : List ℕ) (place : ℕ) → filed model page place .number ≡ 7 → ⊥
   -- On an open machine the plan is such a one.
   pub plan : (M : Machine) (table : List ℕ) (jobs : List Job) → model ≡ Opened M table jobs
       → (levels : List ℕ) × (raises : ℕ) × FiledPlan M table jobs levels raises
 
--- 01's sheet, on a page of 40 bytes from place 3 on; the same with no room; and no machine.
+-- 01's sheet, on a page of 40 bytes from place 3 on; its machine without jobs, where there is no room; and no machine.
 pub record FileTrials : Type 0 where
   pub sheet : filed (exampleModel 5) (replicate 40 0) 3
       ≡ record {

@@ -52,8 +52,8 @@ fn work_of(job: Job, hyperperiod: u32) -> u64
     job.cost as u64 * (hyperperiod / job.window() as u32) as u64
 }
 
-// Grows the plan of the first `held` jobs, whose totals are at hand: step by step one processor more joins, and the slowest of those that have joined is raised while the test fails. Both
-// sides of a test stand multiplied by H × Q, as in the definition.
+// Grows the plan of the first `held` jobs, whose totals are at hand: step by step one processor more joins, and the
+// slowest of those that have joined is raised while the test fails. Both sides of a test stand multiplied by H × Q, as in the definition.
 pub fn grow(machine: Machine, jobs: [Job; 64], held: usize, all: Totals) -> Plan
     requires { ⌜ InRange machine × (held ≤ 64) × Every JobInRange (take held jobs) × ByRisingId (take held jobs) ⌝ }
     requires { ⌜ (hyperperiod (take held jobs) ≤ hyperperiodLimit) × (all ≡ totals (take held jobs)) ⌝ }

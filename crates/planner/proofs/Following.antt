@@ -2,9 +2,9 @@
 use Prim.Native.Nat.{ℕ, _≤_}
 use native.Mathlib.Omega.{arith}
 use mathlib.Core.Path.{_≡_, refl, sym, ap, _∙_}
-use mathlib.Core.Bool.{Bool, true, false}
+use mathlib.Core.Bool.{Bool, true, false, false≢true}
 use mathlib.Core.List.{List}
-use borrow.Author.Tests.{lt-leb}
+use borrow.Author.Tests.{eq-eqb, lt-leb}
 use lib.ListN.{length}
 use Rattle.gmf.specs.declared.Machine.{Machine}
 use Rattle.gmf.specs.declared.Job.{Job}
@@ -36,7 +36,7 @@ use Rattle.planner.proofs.TestRules.{none-passes, passes-none}
 use Rattle.planner.proofs.Passing.{long-not, plan-passes, passes-plan}
 use Rattle.planner.proofs.Forms.{kept-form, kept-model}
 use Rattle.planner.proofs.Replies.{reply-well}
-use Rattle.planner.proofs.Steps.{fair-after, fair-step}
+use Rattle.planner.proofs.Steps.{Fair, stays, turns, fair-after, fair-step}
 
 -- ---- One call
 
@@ -66,6 +66,12 @@ module _ (model : Model) (call : Call) (kept : Kept model) where
   reply-roster : replyTo (rosterOf model) call .roster ≡ rosterOf (after model (step model call))
   reply-roster = ap (λ r. r .roster) (reply-kept model call kept) ∙ replied-roster model (step model call)
 
+-- No refusal by 7.
+never : (o : Outcome) → Fair o → outcomeNumber o ≡ 7 → ⊥
+unfolding outcomeNumber
+never (refused refusal) (stays n) e = false≢true (sym n ∙ eq-eqb (refusalNumber refusal) 7 e)
+never (accepted model) (turns kept) e = omega arith
+
 pub one-call : OneCall
 one-call model kept = record {
   well-formed = kept-form model kept;
@@ -73,6 +79,7 @@ one-call model kept = record {
   number = λ call. reply-number model call kept;
   roster = λ call. reply-roster model call kept;
   kept = λ call. next-kept model call kept;
+  never-7 = λ call. never (step model call) (fair-step model call kept);
 }
 
 -- ---- A job that only 17 could refuse

@@ -118,6 +118,8 @@ pub record CallRule (model : Model) : Type 0 where
   pub number : (call : Call) → numberOf (replyTo (rosterOf model) call .answer) ≡ outcomeNumber (step model call)
   pub roster : (call : Call) → replyTo (rosterOf model) call .roster ≡ rosterOf (after model (step model call))
   pub kept : (call : Call) → Kept (after model (step model call))
+  -- "… a roster made by these calls never meets it" (7), whatever is called.
+  pub never-7 : (call : Call) → outcomeNumber (step model call) ≡ 7 → ⊥
 
 abbrev pub OneCall : Type 0
 OneCall = (model : Model) → Kept model → CallRule model

@@ -5,10 +5,9 @@ use mathlib.Core.Path.{_≡_, refl, sym, ap, _∙_}
 use mathlib.Core.Logic.{inl, inr, ⊎-elim}
 use borrow.Author.Needs.{needs}
 use lib.ListN.{length}
-use Rattle.frame_reader.proofs.Results.{reads}
 use Rattle.desk.specs.Pages.{settled, deskLine}
 use Rattle.desk.proofs.Filling.{made-fits}
-use Rattle.desk.proofs.Pages.{Filling-on, fill-begin, fill-ended, fill-full, fill-more}
+use Rattle.desk.proofs.Pages.{next-within, Filling-on, fill-begin, fill-ended, fill-full, fill-more}
 use Rattle.desk.proofs.fill_lines.Statement.{statement}
 use Rattle.desk.proofs.fill_lines.Tie as tie
 
@@ -23,10 +22,7 @@ abbrev μ-loop : tie.MeasureT-loop
 further : (c : tie.After-line-end Inv-loop μ-loop)
     → (c .before .before .before .loop .at < c .line-end .result)
     × (c .line-end .result ≤ length (c .before .before .before .before .before .before .before .args .sheet .now))
-further c =
-    let l = c .before .before .before in
-    let f = reads .line-rule (l .before .before .before .before .args .sheet .now) .further (l .loop .at) (c .before .before .loop-test .taken) in
-    (omega (arith, c .line-end .ensures, f .0), omega (arith, c .line-end .ensures, f .1))
+further c = next-within _ _ (c .before .before .loop-test .taken) _ (c .line-end .ensures)
 
 loop-holds : tie.Need-loop-holds Inv-loop μ-loop
 loop-holds c = let s = c .before .before .before in fill-begin (s .args .desk) (s .args .sheet .now) (s .args .page .now)

@@ -4,7 +4,7 @@ use native.Mathlib.Omega.{arith}
 use mathlib.Core.Path.{_≡_, refl, sym, ap, _∙_}
 use borrow.Author.Needs.{needs}
 use lib.ListN.{length}
-use Rattle.frame_reader.proofs.Results.{reads}
+use Rattle.desk.proofs.Pages.{next-within}
 use Rattle.desk.proofs.Walking.{Walking, walk-begin, walk-ended, walk-next, walk-stop}
 use Rattle.desk.proofs.read_lines.Statement.{statement}
 use Rattle.desk.proofs.read_lines.Tie as tie
@@ -19,10 +19,7 @@ abbrev μ-loop : tie.MeasureT-loop
 further : (c : tie.After-line-end Inv-loop μ-loop)
     → (c .before .before .loop .at < c .line-end .result)
     × (c .line-end .result ≤ length (c .before .before .before .before .before .args .sheet .now))
-further c =
-    let l = c .before .before in
-    let f = reads .line-rule (l .before .before .before .args .sheet .now) .further (l .loop .at) (c .before .loop-test .taken) in
-    (omega (arith, c .line-end .ensures, f .0), omega (arith, c .line-end .ensures, f .1))
+further c = next-within _ _ (c .before .loop-test .taken) _ (c .line-end .ensures)
 
 empty-requires : tie.Need-empty-requires Inv-loop μ-loop
 empty-requires c κs = search needs
