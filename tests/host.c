@@ -1,15 +1,15 @@
 /*
- * The planner as a studio's host calls it: each reply, the line that ended a sheet, and every byte of the page. What is expected was
- * worked out by hand from the specification, never taken from a run.
+ * The planner as a studio's host calls it: each reply, the line that ended a sheet, every byte of the page and of the sheet, and the bytes
+ * around both, at every site of lent.h. What is expected was worked out by hand from the specification, never taken from a run.
  *
  * Built with: cc -std=c11 -Iinclude tests/host.c libhost.a
  */
+#define _DEFAULT_SOURCE /* mmap without a file, in lent.h */
 #include "../include/planner.h"
+#include "lent.h"
 
 #include <stdarg.h>
 #include <stdio.h>
-#include <stdlib.h>
-#include <string.h>
 
 static unsigned passed, failed;
 
@@ -27,33 +27,28 @@ static void check(int good, const char *format, ...)
     putchar('\n');
 }
 
-/* A page is lent between guard bytes, and no byte of it is like a digit or 0A. */
-enum { GUARD = 32, LONGEST_PAGE = 3 * PLANNER_LONGEST_FRAME };
-static uint8_t memory[GUARD + LONGEST_PAGE + GUARD];
-static uint8_t *const page = memory + GUARD;
+enum { LONGEST_PAGE = 3 * PLANNER_LONGEST_FRAME };
+static struct room sheet_room, page_room;
 
-static uint8_t lent(size_t i)
+static struct lent lend_sheet(enum site site, const void *bytes, size_t length)
 {
-    return (uint8_t)(0x80 + i % 61);
+    return lend(site, sheet_room, bytes, length);
 }
 
-static void lend(void)
+/* What a page of this length holds with the frame at the place and no other byte changed; with no frame, as it is lent. */
+static const uint8_t *page_with(const char *frame, size_t length, size_t place)
 {
-    for (size_t i = 0; i < sizeof memory; i++)
-        memory[i] = lent(i);
+    static uint8_t bytes[LONGEST_PAGE];
+    for (size_t i = 0; i < length; i++)
+        bytes[i] = filling(i);
+    if (frame)
+        memcpy(bytes + place, frame, strlen(frame));
+    return bytes;
 }
 
-/* Whether the frame stands at the place and all other bytes, the guards too, are as lent; with no frame, all bytes. */
-static int page_has(const char *frame, size_t place)
+static struct lent lend_page(enum site site, size_t length)
 {
-    size_t length = frame ? strlen(frame) : 0;
-    size_t start = frame ? GUARD + place : 0;
-    for (size_t i = 0; i < sizeof memory; i++) {
-        uint8_t expected = i >= start && i - start < length ? (uint8_t)frame[i - start] : lent(i);
-        if (memory[i] != expected)
-            return 0;
-    }
-    return 1;
+    return lend(site, page_room, page_with(NULL, length, 0), length);
 }
 
 /* Without a sum that could wrap. */
@@ -62,38 +57,44 @@ static int has_room(size_t page_length, size_t place, size_t need)
     return place <= page_length && page_length - place >= need;
 }
 
-/* A sheet in memory of its own and exactly its length, so that a memory checker can see a byte read beyond it. */
-struct sheet {
-    uint8_t *bytes;
-    size_t length;
-};
-
-static struct sheet sheet_of(const void *bytes, size_t length)
+static void plan(const char *name, const void *sheet, size_t length, size_t page_length, size_t place, uint32_t reply, const char *frame)
 {
-    struct sheet s = {malloc(length ? length : 1), length};
-    if (!s.bytes)
-        abort();
-    memcpy(s.bytes, bytes, length);
-    return s;
+    for (enum site site = 0; site < SITES; site++) {
+        struct lent s = lend_sheet(site, sheet, length), p = lend_page(site, page_length);
+        uint32_t got = planner_plan_sheet(s.bytes, s.length, p.bytes, p.length, place);
+        check(got == reply, "%s, %s: page %zu, place %zu: reply %u, not %u", name, site_names[site], page_length, place, (unsigned)got,
+              (unsigned)reply);
+        check(lent_is(p, page_with(frame, page_length, place)), "%s, %s: page %zu, place %zu: a wrong byte in or around the page", name,
+              site_names[site], page_length, place);
+        check(lent_is(s, sheet), "%s, %s: the sheet or a byte around it has changed", name, site_names[site]);
+        give_back(s);
+        give_back(p);
+    }
 }
 
-static void plan(const char *name, struct sheet s, const void *before, size_t page_length, size_t place, uint32_t reply, const char *frame)
+static void refused_line(const char *name, const void *sheet, size_t length, uint32_t line)
 {
-    lend();
-    uint32_t got = planner_plan_sheet(s.bytes, s.length, page, page_length, place);
-    check(got == reply, "%s: page %zu, place %zu: reply %u, not %u", name, page_length, place, (unsigned)got, (unsigned)reply);
-    check(page_has(frame, place), "%s: page %zu, place %zu: a wrong byte in or around the page", name, page_length, place);
-    check(memcmp(s.bytes, before, s.length) == 0, "%s: the sheet has changed", name);
+    for (enum site site = 0; site < SITES; site++) {
+        struct lent s = lend_sheet(site, sheet, length);
+        uint32_t got = planner_refused_line(s.bytes, s.length);
+        check(got == line, "%s, %s: refused line %lu, not %lu", name, site_names[site], (unsigned long)got, (unsigned long)line);
+        check(lent_is(s, sheet), "%s, %s: the sheet or a byte around it has changed", name, site_names[site]);
+        give_back(s);
+    }
 }
 
 static void refusal(uint32_t line, uint8_t number, size_t page_length, size_t place, uint32_t reply, const char *frame)
 {
-    lend();
-    uint32_t got = planner_write_refusal(line, number, page, page_length, place);
-    check(got == reply, "refusal %lX %u: page %zu, place %zu: reply %u, not %u", (unsigned long)line, number, page_length, place,
-          (unsigned)got, (unsigned)reply);
-    check(page_has(frame, place), "refusal %lX %u: page %zu, place %zu: a wrong byte in or around the page", (unsigned long)line, number,
-          page_length, place);
+    for (enum site site = 0; site < SITES; site++) {
+        struct lent p = lend_page(site, page_length);
+        uint32_t got = planner_write_refusal(line, number, p.bytes, p.length, place);
+        check(got == reply, "refusal %lX %u, %s: page %zu, place %zu: reply %u, not %u", (unsigned long)line, number, site_names[site],
+              page_length, place, (unsigned)got, (unsigned)reply);
+        check(lent_is(p, page_with(frame, page_length, place)),
+              "refusal %lX %u, %s: page %zu, place %zu: a wrong byte in or around the page", (unsigned long)line, number, site_names[site],
+              page_length, place);
+        give_back(p);
+    }
 }
 
 /* The machine of 4 processors with 4 levels in quarters, and the specification's five jobs. */
@@ -186,18 +187,14 @@ static const struct trial trials[] = {
 
 static void try_sheet(const char *name, const void *bytes, size_t length, uint32_t reply, uint32_t line, const char *frame)
 {
-    struct sheet s = sheet_of(bytes, length);
-    uint32_t got = planner_refused_line(s.bytes, s.length);
-    check(got == line, "%s: refused line %lu, not %lu", name, (unsigned long)got, (unsigned long)line);
-    check(memcmp(s.bytes, bytes, length) == 0, "%s: the sheet has changed", name);
-    plan(name, s, bytes, PLANNER_LONGEST_FRAME, 0, reply, reply ? NULL : frame);
-    plan(name, s, bytes, LONGEST_PAGE, 100, reply, reply ? NULL : frame);
+    refused_line(name, bytes, length, line);
+    plan(name, bytes, length, PLANNER_LONGEST_FRAME, 0, reply, reply ? NULL : frame);
+    plan(name, bytes, length, LONGEST_PAGE, 100, reply, reply ? NULL : frame);
     /* A refusal other than for want of room comes before it. */
-    plan(name, s, bytes, 0, 0, reply ? reply : PLANNER_NO_ROOM, NULL);
-    plan(name, s, bytes, 20, SIZE_MAX, reply ? reply : PLANNER_NO_ROOM, NULL);
+    plan(name, bytes, length, 0, 0, reply ? reply : PLANNER_NO_ROOM, NULL);
+    plan(name, bytes, length, 20, SIZE_MAX, reply ? reply : PLANNER_NO_ROOM, NULL);
     if (reply && frame)
         refusal(line, (uint8_t)reply, PLANNER_REFUSAL_FRAME, 0, PLANNER_DONE, frame);
-    free(s.bytes);
 }
 
 static void trials_of_sheets(void)
@@ -263,29 +260,25 @@ static size_t place_number(size_t i, size_t need, size_t page_length)
 /* Every page length up to three bytes more than the frame needs, and one with room on both sides. */
 static void plans_on_pages(const char *name, const char *text, const char *frame)
 {
-    size_t need = strlen(frame);
-    struct sheet s = sheet_of(text, strlen(text));
+    size_t need = strlen(frame), length = strlen(text);
     for (size_t page_length = 0; page_length <= need + 3; page_length++)
         for (size_t i = 0; i < need + 9; i++) {
             size_t place = place_number(i, need, page_length);
             int room = has_room(page_length, place, need);
-            plan(name, s, text, page_length, place, room ? PLANNER_DONE : PLANNER_NO_ROOM, room ? frame : NULL);
+            plan(name, text, length, page_length, place, room ? PLANNER_DONE : PLANNER_NO_ROOM, room ? frame : NULL);
         }
     for (size_t place = 0; place <= 3 * need + 1; place++) {
         int room = has_room(3 * need, place, need);
-        plan(name, s, text, 3 * need, place, room ? PLANNER_DONE : PLANNER_NO_ROOM, room ? frame : NULL);
+        plan(name, text, length, 3 * need, place, room ? PLANNER_DONE : PLANNER_NO_ROOM, room ? frame : NULL);
     }
-    free(s.bytes);
 }
 
 /* Whatever the page, a sheet that is refused otherwise is never refused for want of room. */
 static void refused_on_pages(const char *name, const char *text, uint32_t reply)
 {
-    struct sheet s = sheet_of(text, strlen(text));
     for (size_t page_length = 0; page_length <= 36; page_length++)
         for (size_t i = 0; i < 33 + 9; i++)
-            plan(name, s, text, page_length, place_number(i, 33, page_length), reply, NULL);
-    free(s.bytes);
+            plan(name, text, strlen(text), page_length, place_number(i, 33, page_length), reply, NULL);
 }
 
 static void pages(void)
@@ -330,44 +323,77 @@ static void refusals(void)
     }
 }
 
+/* Places on a page of no bytes, and far beyond any page. */
+static const size_t some_places[] = {0, 1, 33, SIZE_MAX - 10, SIZE_MAX};
+enum { SOME_PLACES = sizeof some_places / sizeof *some_places };
+
+static void without_a_sheet(void)
+{
+    for (enum site site = 0; site < SITES; site++) {
+        struct lent p = lend_page(site, LONGEST_PAGE);
+        for (size_t i = 0; i < SOME_PLACES; i++) {
+            uint32_t got = planner_plan_sheet(NULL, 0, p.bytes, p.length, some_places[i]);
+            check(got == PLANNER_NO_MACHINE, "no sheet, %s: place %zu: reply %u", site_names[site], some_places[i], (unsigned)got);
+            check(lent_is(p, page_with(NULL, p.length, 0)), "no sheet, %s: place %zu: a byte in or around the page has changed",
+                  site_names[site], some_places[i]);
+        }
+        give_back(p);
+    }
+}
+
+static void without_a_page(const char *name, const char *sheet, uint32_t reply)
+{
+    for (enum site site = 0; site < SITES; site++) {
+        struct lent s = lend_sheet(site, sheet, strlen(sheet));
+        for (size_t i = 0; i < SOME_PLACES; i++) {
+            uint32_t got = planner_plan_sheet(s.bytes, s.length, NULL, 0, some_places[i]);
+            check(got == reply, "%s, no page, %s: place %zu: reply %u, not %u", name, site_names[site], some_places[i], (unsigned)got,
+                  (unsigned)reply);
+            check(lent_is(s, sheet), "%s, no page, %s: the sheet or a byte around it has changed", name, site_names[site]);
+        }
+        give_back(s);
+    }
+}
+
+/* NULL with length 0 is a sheet or a page of no bytes. */
 static void null_pointers(void)
 {
-    const uint8_t *const good = (const uint8_t *)QUARTERS FIVE_JOBS;
-    const size_t good_length = strlen(QUARTERS FIVE_JOBS);
-    const uint8_t *const bad = (const uint8_t *)QUARTERS "\n";
-    const size_t bad_length = strlen(QUARTERS "\n");
-    const size_t places[] = {0, 1, 33, SIZE_MAX - 10, SIZE_MAX};
-
     check(planner_refused_line(NULL, 0) == 0, "no sheet: a refused line");
-    lend();
-    for (size_t i = 0; i < sizeof places / sizeof *places; i++) {
-        size_t place = places[i];
-        check(planner_plan_sheet(NULL, 0, page, LONGEST_PAGE, place) == PLANNER_NO_MACHINE, "no sheet, place %zu", place);
+    for (size_t i = 0; i < SOME_PLACES; i++) {
+        size_t place = some_places[i];
         check(planner_plan_sheet(NULL, 0, NULL, 0, place) == PLANNER_NO_MACHINE, "no sheet, no page, place %zu", place);
-        check(planner_plan_sheet(good, good_length, NULL, 0, place) == PLANNER_NO_ROOM, "no page, place %zu", place);
-        check(planner_plan_sheet(bad, bad_length, NULL, 0, place) == PLANNER_MALFORMED, "a bad sheet, no page, place %zu", place);
         check(planner_write_refusal(1, PLANNER_MALFORMED, NULL, 0, place) == PLANNER_NO_ROOM, "refusal, no page, place %zu", place);
     }
-    check(page_has(NULL, 0), "no sheet: a byte of the page has changed");
+    without_a_sheet();
+    without_a_page("a good sheet", QUARTERS FIVE_JOBS, PLANNER_NO_ROOM);
+    without_a_page("a bad sheet", QUARTERS "\n", PLANNER_MALFORMED);
 }
 
 /* What a studio does with a sheet: the plan goes to the archive, or the refusal does. */
 static void a_sheet_filed(void)
 {
     static const char sheet[] = QUARTERS FIVE_JOBS "030006000B000A\n05\n";
-    const uint8_t *bytes = (const uint8_t *)sheet;
-    size_t length = strlen(sheet);
-    lend();
-    uint32_t number = planner_plan_sheet(bytes, length, page, PLANNER_LONGEST_FRAME, 3);
-    uint32_t line = planner_refused_line(bytes, length);
-    if (line != 0 || number == PLANNER_MALFORMED)
-        number = planner_write_refusal(line, (uint8_t)number, page, PLANNER_LONGEST_FRAME, 3);
-    check(number == PLANNER_DONE, "the example filed: %u", (unsigned)number);
-    check(page_has("8E0000000711\n", 3), "the example filed: a wrong byte in or around the page");
+    for (enum site site = 0; site < SITES; site++) {
+        struct lent s = lend_sheet(site, sheet, strlen(sheet)), p = lend_page(site, PLANNER_LONGEST_FRAME);
+        uint32_t number = planner_plan_sheet(s.bytes, s.length, p.bytes, p.length, 3);
+        uint32_t line = planner_refused_line(s.bytes, s.length);
+        if (line != 0 || number == PLANNER_MALFORMED)
+            number = planner_write_refusal(line, (uint8_t)number, p.bytes, p.length, 3);
+        check(number == PLANNER_DONE, "the example filed, %s: %u", site_names[site], (unsigned)number);
+        check(lent_is(p, page_with("8E0000000711\n", p.length, 3)), "the example filed, %s: a wrong byte in or around the page",
+              site_names[site]);
+        check(lent_is(s, sheet), "the example filed, %s: the sheet or a byte around it has changed", site_names[site]);
+        give_back(s);
+        give_back(p);
+    }
 }
 
 int main(void)
 {
+    /* By lines, so that what was found before a call ends the program is written. */
+    setvbuf(stdout, NULL, _IOLBF, BUFSIZ);
+    sheet_room = fenced_room(PLANNER_LONGEST_SHEET + 1);
+    page_room = fenced_room(LONGEST_PAGE);
     trials_of_sheets();
     a_full_roster();
     long_sheets();

@@ -2,12 +2,10 @@
 use Prim.Native.Nat.{ℕ, zero, suc, _+_, _<_, _/_, _%_}
 use native.Mathlib.Decide.{decLt}
 use native.Mathlib.Omega.{arith}
-use mathlib.Core.Path.{_≡_, refl, sym, ap, _∙_}
-use mathlib.Core.Bool.{true, false}
-use mathlib.Core.List.{List, [], _∷_, _++_, append-assoc, append-nil}
+use mathlib.Core.Path.{_≡_, refl, ap, _∙_}
+use mathlib.Core.List.{List, [], _∷_, _++_, append-assoc}
 use borrow.Author.Tests.{lt-ltb, le-ltb, ne-eqb}
-use lib.Dec.{eqb}
-use lib.ListN.{length, drop, replicate}
+use lib.ListN.{drop, replicate}
 use Rattle.hexadecimal.specs.Text.{digitOf, digitsOf, lineOf}
 use Rattle.desk.specs.Sheets.{writtenOn}
 

@@ -1,27 +1,24 @@
 -- A page filled line by line, as the code fills it.
 use Prim.Native.Nat.{ℕ, _+_, _≤_, _<_}
-use native.Mathlib.Omega.{arith}
 use mathlib.Core.Path.{_≡_, refl, sym, ap, ap₂, subst, _∙_}
-use mathlib.Core.Bool.{Bool, true, false}
-use mathlib.Core.Logic.{_⊎_, inl, inr}
-use mathlib.Core.List.{List, [], _∷_}
+use mathlib.Core.Logic.{_⊎_, inl}
+use mathlib.Core.List.{List}
 use borrow.Author.Tests.{le-leb, lt-leb, lt-ltb, le-ltb, eq-eqb, ne-eqb}
-use lib.Dec.{eqb}
-use lib.ListN.{length, drop}
+use lib.ListN.{length}
 use Rattle.hexadecimal.specs.Text.{lineOf}
 use Rattle.frame_writer.specs.Frames.{refusalBytes}
 use Rattle.planner.specs.declared.Roster.{Roster}
-use Rattle.planner.specs.declared.Answer.{Answer}
-use Rattle.planner.specs.declared.Answer.the-variants.{Accepted, Refused}
-use Rattle.planner.specs.declared.Refusal.{Refusal}
-use Rattle.planner.specs.Calls.{refusalNumber, numberOf}
-use Rattle.planner.proofs.Results.{planner}
-use Rattle.filing.specs.Plans.{Filed, putOn, planReply}
+use Rattle.refusals.specs.declared.Answer.{Answer}
+use Rattle.refusals.specs.declared.Answer.the-variants.{Accepted, Refused}
+use Rattle.refusals.specs.declared.Refusal.{Refusal}
+use Rattle.refusals.specs.Numbers.{refusalNumber, numberOf}
+use Rattle.refusals.proofs.Results.{number-rule}
+use Rattle.filing.specs.Plans.{putOn}
 use Rattle.filing.proofs.Results.{files}
-use Rattle.desk.specs.declared.LineAnswer.{LineAnswer}
+use Rattle.calls.specs.declared.LineAnswer.{LineAnswer}
 use Rattle.desk.specs.declared.Desk.{Desk}
-use Rattle.desk.specs.Lines.{Asked, malformed, change, plan, asked, LineReply, answeredOn, replyAs, lineReply}
-use Rattle.desk.specs.Pages.{Lined, settled, Filling, filledOn, fillTooLong}
+use Rattle.calls.specs.Lines.{Asked, malformed, change, plan, asked, LineReply, answeredOn, replyAs, lineReply}
+use Rattle.desk.specs.Pages.{settled, filledOn, fillTooLong}
 
 -- ---- A sheet too long
 
@@ -56,7 +53,7 @@ module _ (number place : ℕ) (answer : Answer) (count : ℕ) (page : List ℕ) 
 
   pub settled-accepted : answer ≡ Accepted → (r : Roster)
       → record { roster = r; page = page; end = place + count } ≡ settled number place (reply (numberOf answer) r)
-  settled-accepted a r = rw (eq-eqb (numberOf answer) 0 (ap numberOf a ∙ planner .numbers .accepted), settled)
+  settled-accepted a r = rw (eq-eqb (numberOf answer) 0 (ap numberOf a ∙ number-rule .accepted), settled)
 
   refused-as : (n : ℕ) → (n ≡ 0 → ⊥) → (r : Roster)
       → record {
@@ -71,14 +68,14 @@ module _ (number place : ℕ) (answer : Answer) (count : ℕ) (page : List ℕ) 
       → written ≡ putOn page place (lineOf (refusalBytes number given)) .count → exit ≡ putOn page place (lineOf (refusalBytes number given)) .page
       → (r : Roster) → record { roster = r; page = exit; end = place + written } ≡ settled number place (reply (numberOf answer) r)
   settled-refused refusal a given written exit g n p r =
-      let is = ap numberOf a ∙ planner .numbers .refused refusal in
+      let is = ap numberOf a ∙ number-rule .refused refusal in
       ap₂ (λ (k : ℕ) (q : List ℕ). record { roster = r; page = q; end = place + k }) n p
       ∙ ap (λ (k : ℕ). record {
         roster = r;
         page = putOn page place (lineOf (refusalBytes number k)) .page;
         end = place + putOn page place (lineOf (refusalBytes number k)) .count;
       }) (g ∙ sym is)
-      ∙ refused-as (numberOf answer) (λ z. planner .numbers .never-0 refusal (sym is ∙ z)) r
+      ∙ refused-as (numberOf answer) (λ z. number-rule .never-0 refusal (sym is ∙ z)) r
 
 -- What a line's call writes ends on the page.
 pub reply-fits : (r : Roster) (ask : Asked) (page : List ℕ) (place : ℕ)

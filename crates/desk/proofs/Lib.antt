@@ -1,11 +1,6 @@
 pub mod AcceptanceTrials
-pub mod Asking
 pub mod Filling
 pub mod Pages
-pub mod Following
-pub mod Walking
-pub mod Demand
-pub mod Hosting
 pub mod Blank
 pub mod Pieces
 pub mod Results

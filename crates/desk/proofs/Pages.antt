@@ -4,38 +4,24 @@ use native.Mathlib.Decide.{decLe, decLt}
 use native.Mathlib.Omega.{arith}
 use mathlib.Core.Path.{_≡_, refl, sym, ap, ap₂, subst, _∙_}
 use mathlib.Core.Bool.{Bool, true, false}
-use mathlib.Core.Logic.{_⊎_, inl, inr, ⊎-elim}
+use mathlib.Core.Logic.{_⊎_, ⊎-elim}
 use mathlib.Core.List.{List, [], _∷_}
 use borrow.Author.Tests.{le-leb, lt-leb}
 use lib.Dec.{eqb}
-use lib.ListN.{length, take, drop, length-take, length-drop}
-use lib.Seq.{length-take-le}
+use lib.ListN.{length, take, drop}
 use Rattle.hexadecimal.specs.Text.{lineOf}
 use Rattle.frame_reader.specs.Lines.{linesOf, lineEnd}
+use Rattle.frame_reader.proofs.Lines.{next-within, line-size}
 use Rattle.frame_reader.proofs.Results.{reads}
 use Rattle.frame_writer.specs.Frames.{refusalBytes}
 use Rattle.planner.specs.declared.Roster.{Roster}
-use Rattle.filing.specs.Plans.{Filed, putOn}
 use Rattle.filing.proofs.Written.{put-fits, put-length}
 use Rattle.filing.proofs.Results.{files}
 use Rattle.desk.specs.declared.Desk.{Desk}
-use Rattle.desk.specs.Lines.{Asked, malformed, change, plan, asked, LineReply, replyAs, lineReply}
+use Rattle.calls.specs.Lines.{Asked, malformed, change, plan, asked, LineReply, replyAs, lineReply}
 use Rattle.desk.specs.Pages.{nextLine, Lined, settled, deskLine, Filling, filledOn, fillLines, fillTooLong, fillPage}
 use Rattle.desk.specs.Claims.{PageRule}
 use Rattle.desk.proofs.Filling.{reply-fits, too-long-past, too-long-small, too-long-put}
-
--- ---- The next line of a sheet
-
-module _ (sheet : List ℕ) (at : ℕ) (inside : at < length sheet) where
-  -- Its end is within the sheet, …
-  pub next-within : (next : ℕ) → next ≡ lineEnd sheet at → (at < next) × (next ≤ length sheet)
-  next-within next e = let f = reads .line-rule sheet .further at inside in (omega (arith, f .0), omega (arith, f .1))
-
-  -- … and so many bytes on.
-  pub line-size : at + length (take (lineEnd sheet at - at) (drop at sheet)) ≡ lineEnd sheet at
-  line-size =
-      let f = next-within (lineEnd sheet at) refl in
-      omega (arith, f .0, length-take-le (lineEnd sheet at - at) (drop at sheet) (simp length-drop (omega (arith, f .0, f .1))))
 
 -- ---- A line keeps to its page
 

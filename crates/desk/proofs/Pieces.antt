@@ -1,5 +1,5 @@
 -- The pages that the desk fills, joined, are what it writes for the sheet.
-use Prim.Native.Nat.{ℕ, zero, suc, _+_, _-_, _*_, _%_, _≤_, _<_}
+use Prim.Native.Nat.{ℕ, suc, _+_, _-_, _%_, _≤_, _<_}
 use native.Mathlib.Nat.{mod-eq-of-lt}
 use native.Mathlib.Numerals.{add-one}
 use native.Mathlib.Decide.{decLe, decLt}
@@ -9,37 +9,34 @@ use mathlib.Core.Bool.{Bool, true, false}
 use mathlib.Core.List.{List, [], _∷_, _++_, map, append-assoc, append-nil}
 use borrow.Author.Tests.{le-leb, lt-leb, eq-eqb, ne-eqb, eqb-true, eqb-false}
 use lib.Dec.{eqb}
-use lib.ListN.{length, take, drop, replicate, length-append, length-drop}
+use lib.ListN.{length, take, drop, length-append}
 use lib.Seq.{length-take-le, take-append-seam}
-use Rattle.gmf.specs.declared.Machine.{Machine}
-use Rattle.gmf.specs.declared.Job.{Job}
 use Rattle.hexadecimal.specs.Text.{lineOf}
 use Rattle.hexadecimal.proofs.Results.{hexadecimal}
-use Rattle.frame_reader.specs.Lines.{joined, linesOf, lineEnd}
+use Rattle.frame_reader.specs.Lines.{longestSheet, joined, linesOf, lineEnd}
+use Rattle.frame_reader.proofs.Lines.{line-size}
 use Rattle.frame_reader.proofs.Results.{reads}
-use Rattle.frame_writer.specs.Frames.{planBytes, refusalBytes}
-use Rattle.frame_writer.specs.Page.{Reply}
+use Rattle.frame_writer.specs.Frames.{refusalBytes}
 use Rattle.planner.specs.declared.Roster.{Roster}
-use Rattle.planner.specs.declared.Refusal.the-variants.{NoMachine, Malformed}
 use Rattle.planner.specs.Model.{Model, Closed, Opened}
 use Rattle.planner.specs.Roster.{emptyRoster, rosterOf}
 use Rattle.planner.specs.Claims.{Kept}
 use Rattle.planner.proofs.Results.{planner}
-use Rattle.filing.specs.Plans.{Filed, putOn, planLine, filed, planReply}
-use Rattle.filing.specs.Claims.{frameLength, FiledPlan}
+use Rattle.filing.specs.Plans.{Filed, planLine, filed, planReply}
+use Rattle.filing.specs.Claims.{frameLength}
 use Rattle.filing.proofs.Written.{put-room}
 use Rattle.filing.proofs.Results.{files}
 use Rattle.desk.specs.declared.Desk.{Desk}
-use Rattle.desk.specs.Lines.{Asked, malformed, change, plan, asked, LineReply, replyAs, lineReply}
-use Rattle.desk.specs.Calls.{Call, Line, Done, readAs, onModel, onRoster, replies}
-use Rattle.desk.specs.Sheets.{longestSheet, blank, deskCalls, writtenOn, output, outputs, deskSheet}
-use Rattle.desk.specs.Pages.{atStart, nextLine, Lined, settled, deskLine, Filling, fillLines, fillTooLong, fillPage, pieces, deskAfter}
+use Rattle.calls.specs.Lines.{Asked, malformed, change, plan, asked, LineReply, replyAs, lineReply}
+use Rattle.calls.specs.Calls.{Line, readAs, onModel, onRoster, replies}
+use Rattle.desk.specs.Sheets.{blank, deskCalls, writtenOn, output, outputs, deskSheet}
+use Rattle.desk.specs.Pages.{atStart, nextLine, Lined, settled, deskLine, Filling, fillLines, fillPage, pieces, deskAfter}
 use Rattle.desk.specs.Claims.{DeskRule}
 use Rattle.desk.proofs.Blank.{on-line}
 use Rattle.desk.proofs.Filling.{too-long-past, too-long-small, too-long-put}
-use Rattle.desk.proofs.Following.{line-follows}
-use Rattle.desk.proofs.Pages.{line-size, fill-line, fill-stop, lined-fits, lined-length, page-allowed, page-too-long}
-use Rattle.desk.proofs.Demand.{demand-3}
+use Rattle.calls.proofs.Following.{line-follows}
+use Rattle.desk.proofs.Pages.{fill-line, fill-stop, lined-fits, lined-length, page-allowed, page-too-long}
+use Rattle.calls.proofs.Demand.{demand-3}
 
 -- ---- One line
 

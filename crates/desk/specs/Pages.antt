@@ -5,15 +5,15 @@ use mathlib.Core.List.{List, [], _∷_, _++_}
 use lib.Dec.{leb, ltb, eqb}
 use lib.ListN.{length, take, drop}
 use Rattle.hexadecimal.specs.Text.{lineOf}
-use Rattle.frame_reader.specs.Lines.{linesOf}
+use Rattle.frame_reader.specs.Lines.{longestSheet, linesOf}
 use Rattle.frame_writer.specs.Frames.{refusalBytes}
 use Rattle.planner.specs.declared.Roster.{Roster}
 use Rattle.planner.specs.Roster.{emptyRoster}
 use Rattle.filing.specs.Plans.{putOn}
 use Rattle.desk.specs.declared.Desk.{Desk}
 use Rattle.desk.specs.declared.Filled.{Filled}
-use Rattle.desk.specs.Lines.{LineReply, lineReply}
-use Rattle.desk.specs.Sheets.{longestSheet, longestFrame}
+use Rattle.calls.specs.Lines.{LineReply, lineReply}
+use Rattle.desk.specs.Sheets.{longestFrame}
 
 -- Where a sheet begins: the roster of all zeros, position 0, line 1.
 unfoldable pub atStart : Desk

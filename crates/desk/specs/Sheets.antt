@@ -5,15 +5,11 @@ use mathlib.Core.List.{List, [], _∷_, _++_, map}
 use lib.Dec.{leb, eqb}
 use lib.ListN.{length, replicate}
 use Rattle.hexadecimal.specs.Text.{lineOf}
-use Rattle.frame_reader.specs.Lines.{linesOf}
+use Rattle.frame_reader.specs.Lines.{longestSheet, linesOf}
 use Rattle.frame_writer.specs.Frames.{refusalBytes}
-use Rattle.frame_writer.specs.Page.{Reply}
+use Rattle.line_writer.specs.Page.{Reply}
 use Rattle.planner.specs.Model.{Closed}
-use Rattle.desk.specs.Calls.{Call, Line, onModel, replies}
-
--- "A sheet is at most 65,536 bytes …".
-abbrev pub longestSheet : ℕ
-longestSheet = 65536
+use Rattle.calls.specs.Calls.{Call, Line, onModel, replies}
 
 -- The longest frame out with its 0A, frame 81 with 32 levels: two digits for each of its 44 bytes, and the 0A.
 abbrev pub longestFrame : ℕ

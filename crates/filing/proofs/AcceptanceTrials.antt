@@ -7,14 +7,15 @@ use Rattle.gmf.specs.Capacity.{insert, sortDescending, largest, capacity}
 use Rattle.gmf.specs.Growing.{slowest, raise, demand, holds, raisesLeft, raiseWhileFails, step, steps, growing, planOf}
 use Rattle.gmf.specs.Power.{total}
 use Rattle.hexadecimal.specs.Text.{digitOf, digitsOf, lineOf}
-use Rattle.frame_writer.specs.Page.{written}
+use Rattle.line_writer.specs.Page.{written}
 use Rattle.places.specs.Places.{unused}
 use Rattle.power_tables.specs.Entries.{zeros}
-use Rattle.planner.specs.Roster.{emptyRoster, modelOf, allZero, wellFormed}
-use Rattle.planner.specs.Calls.{refusalNumber}
+use Rattle.roster_shape.specs.Shape.{allZero as zeroTest}
+use Rattle.planner.specs.Roster.{emptyRoster, modelOf, wellFormed}
+use Rattle.refusals.specs.Numbers.{refusalNumber}
 use Rattle.filing.specs.Plans.{putOn, planLine, filedAs, filedOn, filed, planReply}
 use Rattle.filing.specs.Claims.{FileTrials}
 
 pub trials : FileTrials
-unfolding euclid gcd lcm speed top machine window hyperperiod work works insert sortDescending largest capacity slowest raise demand holds raisesLeft raiseWhileFails step steps growing planOf total digitOf digitsOf lineOf written unused zeros emptyRoster modelOf allZero wellFormed refusalNumber putOn planLine filedAs filedOn filed planReply
+unfolding euclid gcd lcm speed top machine window hyperperiod work works insert sortDescending largest capacity slowest raise demand holds raisesLeft raiseWhileFails step steps growing planOf total digitOf digitsOf lineOf written unused zeros emptyRoster modelOf zeroTest wellFormed refusalNumber putOn planLine filedAs filedOn filed planReply
 trials = record { sheet = refl; on-blank = refl; no-room = refl; no-machine = refl }

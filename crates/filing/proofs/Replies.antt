@@ -1,22 +1,22 @@
 -- What the plan call on a roster replies, as the code finds it.
 use Prim.Native.Nat.{ℕ}
-use mathlib.Core.Path.{_≡_, refl, sym, ap, _∙_}
+use mathlib.Core.Path.{_≡_, sym, ap, _∙_}
 use mathlib.Core.Bool.{true, false}
 use mathlib.Core.List.{List}
 use lib.ListN.{length, take}
 use Rattle.workload.specs.declared.Totals.{Totals}
 use Rattle.planner.specs.declared.Roster.{Roster}
 use Rattle.planner.specs.declared.Condition.the-variants as condition
-use Rattle.planner.specs.declared.Answer.the-variants.{Refused}
-use Rattle.planner.specs.declared.Refusal.{Refusal}
-use Rattle.planner.specs.declared.Refusal.the-variants.{Damaged, NoMachine}
+use Rattle.refusals.specs.declared.Answer.the-variants.{Refused}
+use Rattle.refusals.specs.declared.Refusal.{Refusal}
+use Rattle.refusals.specs.declared.Refusal.the-variants.{Damaged, NoMachine}
 use Rattle.planner.specs.Model.{Model}
 use Rattle.planner.specs.Roster.{modelOf, wellFormed, inspected}
-use Rattle.planner.specs.Calls.{numberOf}
+use Rattle.refusals.specs.Numbers.{numberOf}
 use Rattle.planner.specs.Claims.{InspectRule}
 use Rattle.planner.proofs.Results.{planner}
 use Rattle.filing.specs.declared.Filing.{Filing}
-use Rattle.filing.specs.Plans.{Filed, filedBy, unwritten, filedOn, filed, planReply}
+use Rattle.filing.specs.Plans.{filedBy, unwritten, filedOn, filed, planReply}
 
 -- The right refusal, and nothing written.
 refused-as : {given : Refusal} (right : Refusal) (result : Filing) → result ≡ record { answer = Refused given; count = 0 } → given ≡ right

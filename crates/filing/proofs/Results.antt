@@ -4,9 +4,9 @@ use native.Mathlib.Decide.{decLe, decLt}
 use native.Mathlib.Omega.{arith}
 use mathlib.Core.Path.{_≡_, refl, sym, ap, subst, _∙_}
 use mathlib.Core.Bool.{Bool, true, false}
-use mathlib.Core.Logic.{_⊎_, inl, inr}
+use mathlib.Core.Logic.{_⊎_, inl}
 use mathlib.Core.List.{List, [], _∷_, _++_, map}
-use lib.ListN.{length, take, drop}
+use lib.ListN.{length, take, drop, length-map}
 use Rattle.gmf.specs.declared.Machine.{Machine}
 use Rattle.gmf.specs.declared.Job.{Job}
 use Rattle.gmf.specs.Growing.{Growth, Grown, NoPlan, planOf}
@@ -19,6 +19,7 @@ use Rattle.planner.specs.declared.Roster.{Roster}
 use Rattle.planner.specs.Model.{Model, Closed, Opened}
 use Rattle.planner.specs.Roster.{modelOf, rosterOf, wellFormed}
 use Rattle.planner.specs.Claims.{Kept}
+use Rattle.refusals.proofs.Results.{number-rule}
 use Rattle.planner.proofs.Results.{planner}
 use Rattle.filing.specs.Plans.{Filed, putOn, planLine, filedAs, filedOn, filed, planReply}
 use Rattle.filing.specs.Claims.{frameLength, FiledPlan, ReplyRule, FileRule, FilesClosed, Files}
@@ -47,10 +48,6 @@ levels-most : (most : ℕ) (xs : List ℕ) → ((k : ℕ) → level xs k ≤ mos
 unfolding Most
 levels-most most [] h = tt
 levels-most most (x ∷ xs) h = (h 0, levels-most most xs (λ k. h (suc k)))
-
-as-many : (f : ℕ → ℕ) (xs : List ℕ) → length (map f xs) ≡ length xs
-as-many f [] = refl
-as-many f (x ∷ xs) = ap suc (as-many f xs)
 
 past-end : (xs : List ℕ) (k : ℕ) → length xs ≤ k → level xs k ≡ 0
 past-end [] k h = refl
@@ -100,7 +97,7 @@ module _ (M : Machine) (table : List ℕ) (jobs : List Job) (kept : Kept (Opened
       let raised = sum-most 31 plan (levels-most 31 plan levels-few) in (
         omega (arith, kept .1),
         omega (arith, kept .0 .within-limit),
-        omega (arith, drawn, as-many (power table) plan, size, m),
+        omega (arith, drawn, length-map plan (power table), size, m),
         omega (arith, raised, least .counted, size, m),
       )
 
@@ -127,7 +124,7 @@ module _ (M : Machine) (table : List ℕ) (jobs : List Job) (kept : Kept (Opened
 
 closed : FilesClosed
 unfolding filed
-closed page place = ap (λ (n : ℕ). record { number = n; page = page; count = 0 }) (planner .numbers .no-machine)
+closed page place = ap (λ (n : ℕ). record { number = n; page = page; count = 0 }) (number-rule .no-machine)
 
 not-7 : (model : Model) → Kept model → (page : List ℕ) (place : ℕ) → filed model page place .number ≡ 7 → ⊥
 not-7 Closed kept page place e = omega (arith, ap (λ (f : Filed). f .number) (closed page place))

@@ -1,12 +1,10 @@
 -- The plan of a sound roster: it is grown, and what the code makes of it is its frame.
-use Prim.Native.Nat.{ℕ, zero, suc, _+_, _-_, _*_, _≤_, _<_}
+use Prim.Native.Nat.{ℕ, zero, suc, _+_, _-_, _≤_, _<_}
 use native.Mathlib.Decide.{decLt}
-use native.Mathlib.Nat.{le-trans, lt-of-lt-of-le}
 use native.Mathlib.Omega.{arith}
-use mathlib.Core.Path.{_≡_, refl, sym, ap, subst, _∙_}
-use mathlib.Core.Bool.{true, false}
-use mathlib.Core.List.{List, [], _∷_, _++_}
-use lib.ListN.{length, take, drop, getD, replicate, take-append-drop, length-append, length-replicate}
+use mathlib.Core.Path.{_≡_, refl, sym, ap, _∙_}
+use mathlib.Core.List.{List, _++_}
+use lib.ListN.{length, take, getD, replicate, take-append-drop, length-append, length-replicate}
 use lib.Seq.{length-take-le, take-append-seam, getD-take, getD-drop}
 use Rattle.gmf.specs.declared.Machine.{Machine}
 use Rattle.gmf.specs.declared.Job.{Job}
@@ -22,9 +20,8 @@ use Rattle.frame_writer.specs.Frames.{planBytes}
 use Rattle.growing.specs.declared.Plan.{Plan}
 use Rattle.growing.specs.Plan.{planFrom}
 use Rattle.planner.specs.declared.Roster.{Roster}
-use Rattle.planner.specs.Claims.{Rules, IsSound}
-use Rattle.filing.specs.Plans.{Filed, putOn, planLine, filedAs, filedOn}
-use Rattle.filing.specs.Claims.{frameLength}
+use Rattle.planner.specs.Claims.{IsSound}
+use Rattle.filing.specs.Plans.{putOn, planLine, filedAs, filedOn}
 
 -- ---- Growing finds a plan where some plan passes
 

@@ -1,8 +1,8 @@
 -- A line put on a page, and its length.
-use Prim.Native.Nat.{ℕ, _+_, _*_, _≤_}
+use Prim.Native.Nat.{ℕ, _+_, _≤_}
 use native.Mathlib.Decide.{decLe}
 use native.Mathlib.Omega.{arith}
-use mathlib.Core.Path.{_≡_, refl, sym, ap, _∙_}
+use mathlib.Core.Path.{_≡_, sym, ap, _∙_}
 use mathlib.Core.Bool.{true, false}
 use mathlib.Core.Logic.{_⊎_, inl, inr}
 use mathlib.Core.List.{List, _++_}
@@ -12,18 +12,16 @@ use lib.ListN.{length, take, drop}
 use Rattle.gmf.specs.declared.Job.{Job}
 use Rattle.gmf.specs.Jobs.{hyperperiod}
 use Rattle.gmf.specs.Power.{total}
-use Rattle.hexadecimal.specs.Text.{lineOf}
 use Rattle.hexadecimal.proofs.Results.{hexadecimal}
-use Rattle.frame_writer.specs.declared.Placing.{Placing}
-use Rattle.frame_writer.specs.declared.Placing.the-variants.{Written, NoRoom}
+use Rattle.line_writer.specs.declared.Placing.{Placing}
+use Rattle.line_writer.specs.declared.Placing.the-variants.{Written, NoRoom}
 use Rattle.frame_writer.specs.Frames.{planBytes}
-use Rattle.frame_writer.specs.Page.{Reply, answered, written}
-use Rattle.frame_writer.specs.Page as page
-use Rattle.frame_writer.proofs.Results.{writing}
-use Rattle.planner.specs.declared.Answer.the-variants.{Accepted, Refused}
-use Rattle.planner.specs.declared.Refusal.the-variants as refusal
-use Rattle.planner.specs.Calls.{refusalNumber, numberOf}
-use Rattle.filing.specs.declared.Filing.{Filing}
+use Rattle.line_writer.specs.Page.{Reply, answered, written}
+use Rattle.line_writer.specs.Page as page
+use Rattle.line_writer.proofs.Results.{lining}
+use Rattle.refusals.specs.declared.Answer.the-variants.{Accepted, Refused}
+use Rattle.refusals.specs.declared.Refusal.the-variants as refusal
+use Rattle.refusals.specs.Numbers.{refusalNumber, numberOf}
 use Rattle.filing.specs.Plans.{Filed, filedBy, putOn, planLine}
 use Rattle.filing.specs.Claims.{frameLength}
 
@@ -78,7 +76,7 @@ module _ (p : List ℕ) (place : ℕ) (line : List ℕ) where
 
   pub put-length : length (putOn p place line .page) ≡ length p
   unfolding putOn
-  put-length = writing .page-rule p place line .same-length
+  put-length = lining .page-rule p place line .same-length
 
 pub line-size : (table : List ℕ) (jobs : List Job) (plan : List ℕ) (raises : ℕ) → length (planLine table jobs plan raises) ≡ frameLength (length plan)
 unfolding planLine

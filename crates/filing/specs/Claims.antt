@@ -17,7 +17,7 @@ use Rattle.planner.specs.declared.Roster.{Roster}
 use Rattle.planner.specs.Model.{Model, Closed, Opened}
 use Rattle.planner.specs.Roster.{emptyRoster, rosterOf}
 use Rattle.planner.specs.Claims.{Kept, exampleModel}
-use Rattle.filing.specs.Plans.{Filed, planLine, filed, planReply}
+use Rattle.filing.specs.Plans.{planLine, filed, planReply}
 
 -- The frame of a plan, its 0A with it: 12 bytes and one for each level, two digits a byte.
 abbrev pub frameLength : ℕ → ℕ

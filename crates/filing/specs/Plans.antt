@@ -11,13 +11,13 @@ use Rattle.gmf.specs.Growing.{Growth, Grown, NoPlan, planOf}
 use Rattle.gmf.specs.Power.{total}
 use Rattle.hexadecimal.specs.Text.{lineOf}
 use Rattle.frame_writer.specs.Frames.{planBytes}
-use Rattle.frame_writer.specs.Page.{written}
+use Rattle.line_writer.specs.Page.{written}
 use Rattle.planner.specs.declared.Roster.{Roster}
-use Rattle.planner.specs.declared.Refusal.{Refusal}
-use Rattle.planner.specs.declared.Refusal.the-variants as refusal
+use Rattle.refusals.specs.declared.Refusal.{Refusal}
+use Rattle.refusals.specs.declared.Refusal.the-variants as refusal
 use Rattle.planner.specs.Model.{Model, Closed, Opened}
 use Rattle.planner.specs.Roster.{modelOf, wellFormed}
-use Rattle.planner.specs.Calls.{refusalNumber, numberOf}
+use Rattle.refusals.specs.Numbers.{refusalNumber, numberOf}
 use Rattle.filing.specs.declared.Filing.{Filing}
 
 -- A reply by its number, the whole page with it, and how many bytes of the page were written.

@@ -3,16 +3,16 @@ ghost use mathlib.Core.Path.{_≡_};
 ghost use lib.ListN.{take};
 ghost use Rattle.workload.specs.Load.{totals};
 ghost use Rattle.planner.specs.Claims.{IsSound};
-ghost use Rattle.planner.specs.declared.Answer.the-variants.{Refused};
+ghost use Rattle.refusals.specs.declared.Answer.the-variants.{Refused};
 ghost use Rattle.filing.specs.Plans.{filedBy, filedOn, planReply};
-use frame_writer::Placing;
 use frame_writer::write_plan;
 use growing::grow;
-use planner::Answer;
+use line_writer::Placing;
 use planner::Condition;
-use planner::Refusal;
 use planner::Roster;
 use power_tables::total_power;
+use refusals::Answer;
+use refusals::Refusal;
 use workload::Totals;
 
 // What a plan call answers, and how many bytes of the page it wrote.

@@ -1,6 +1,6 @@
 // Frames into pages. A page is printed between bars; it is lent with a dot in each byte.
 use crate::print;
-use frame_writer::Placing;
+use line_writer::Placing;
 
 // The reply's number, and the whole page.
 fn result(placing: Placing, page: &[u8]) {

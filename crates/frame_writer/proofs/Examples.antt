@@ -1,8 +1,7 @@
--- Lines and pages, computed from the definitions.
+-- Lines, computed from the definitions.
 use mathlib.Core.Path.{refl}
 use Rattle.hexadecimal.specs.Text.{digitOf, digitsOf, lineOf}
-use Rattle.frame_writer.specs.Page.{written}
-use Rattle.frame_writer.specs.Claims.{PageTrials, LineTrials}
+use Rattle.frame_writer.specs.Claims.{LineTrials}
 
 pub line-trials : LineTrials
 unfolding digitOf digitsOf lineOf
@@ -12,7 +11,3 @@ line-trials = record {
   plan = refl;
   wide = refl;
 }
-
-pub page-trials : PageTrials
-unfolding written
-page-trials = record { midst = refl; to-the-end = refl; one-too-long = refl; beyond = refl }

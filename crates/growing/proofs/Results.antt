@@ -20,7 +20,6 @@ use Rattle.workload.specs.declared.Verdict.{Verdict}
 use Rattle.workload.specs.declared.Verdict.the-variants.{SomePlan}
 use Rattle.workload.specs.declared.Verdict.the-variants as verdict
 use Rattle.workload.specs.Load.{verdictOn}
-use Rattle.growing.specs.declared.Plan.{Plan}
 use Rattle.growing.specs.Plan.{withoutPlan, planFrom}
 use Rattle.growing.specs.Claims.{Returned, Answers, PlanTrials, Planning}
 

@@ -6,6 +6,8 @@ ghost use Rattle.gmf.specs.Machine.{InRange};
 ghost use Rattle.gmf.specs.Jobs.{JobInRange, ByRisingId, Every, hyperperiod, hyperperiodLimit, work};
 ghost use Rattle.workload.specs.Load.{totals};
 ghost use Rattle.growing.specs.Plan.{planned, withoutPlan};
+use accessors::top_speed;
+use accessors::window;
 use gmf::Job;
 use gmf::Machine;
 use selection::next_job;
@@ -49,7 +51,7 @@ fn work_of(job: Job, hyperperiod: u32) -> u64
     requires { ⌜ JobInRange job ⌝ }
     ensures { λ r. ⌜ r ≡ work hyperperiod job ⌝ }
 {
-    job.cost as u64 * (hyperperiod / job.window() as u32) as u64
+    job.cost as u64 * (hyperperiod / window(job) as u32) as u64
 }
 
 // Grows the plan of the first `held` jobs, whose totals are at hand: step by step one processor more joins, and the
@@ -61,7 +63,7 @@ pub fn grow(machine: Machine, jobs: [Job; 64], held: usize, all: Totals) -> Plan
 {
     let hyperperiod = all.hyperperiod;
     let top_level = machine.levels - 1;
-    let top_speed = machine.top_speed() as u64;
+    let top_speed = top_speed(machine) as u64;
     // what one level more gets done in the hyperperiod
     let gain = hyperperiod as u64 * machine.step as u64;
     let steps = steps_of(machine.processors, held);

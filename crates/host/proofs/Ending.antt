@@ -1,21 +1,18 @@
 -- The reply to a sheet, as the code finds it.
 use Prim.Native.Nat.{ℕ}
-use mathlib.Core.Path.{_≡_, refl, sym, ap, _∙_}
-use mathlib.Core.Bool.{true, false}
+use mathlib.Core.Path.{_≡_, sym, ap, _∙_}
 use mathlib.Core.List.{List}
 use borrow.Author.Tests.{eq-eqb, ne-eqb}
-use lib.Dec.{eqb}
-use Rattle.frame_writer.specs.Page.{Reply}
 use Rattle.planner.specs.declared.Roster.{Roster}
 use Rattle.planner.specs.Roster.{rosterOf}
-use Rattle.planner.specs.Calls.{numberOf}
+use Rattle.refusals.specs.Numbers.{numberOf}
 use Rattle.filing.specs.declared.Filing.{Filing}
-use Rattle.filing.specs.Plans.{Filed, filedBy, filed, planReply}
+use Rattle.filing.specs.Plans.{Filed, filedBy, planReply}
 use Rattle.filing.proofs.Results.{files}
-use Rattle.desk.specs.declared.Ended.{Ended}
-use Rattle.desk.specs.Host.{endNumber, endModel, endOf, hostReply}
-use Rattle.desk.proofs.Results.{desks}
+use Rattle.host.specs.declared.Ended.{Ended}
+use Rattle.host.specs.Host.{endNumber, endModel, endOf, hostReply}
 use Rattle.host.specs.Replies.{repliedOn}
+use Rattle.host.proofs.Hosting.{host-rule}
 
 module _ (sheet page : List ℕ) (place : ℕ) (ended : Ended) (e : ended ≡ endOf sheet) where
   number-is : ended .number ≡ endNumber sheet
@@ -39,5 +36,5 @@ module _ (sheet page : List ℕ) (place : ℕ) (ended : Ended) (e : ended ≡ en
       ∙ ap (λ (q : Filed). repliedOn (q .number) (q .page))
       (f
       ∙ ap (λ (r : Roster). planReply r page place) roster-is
-      ∙ files .file-rule (endModel sheet) (desks .host-rule sheet .kept) .follows page place)
+      ∙ files .file-rule (endModel sheet) (host-rule sheet .kept) .follows page place)
       ∙ rw (eq-eqb (endNumber sheet) 0 (sym number-is ∙ z), hostReply)

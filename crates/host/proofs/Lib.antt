@@ -1,1 +1,5 @@
+pub mod AcceptanceTrials
+pub mod Walking
+pub mod Hosting
 pub mod Ending
+pub mod Results

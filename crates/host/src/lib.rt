@@ -1,13 +1,74 @@
-// The calls of a host in C: a sheet, a page and a place. include/planner.h declares them. The definitions are desk's.
+// The calls of a host in C: a sheet, a page and a place. include/planner.h declares them. The definitions are in specs/.
 ghost use mathlib.Core.Path.{_≡_};
+ghost use Prim.Native.Nat.{_≤_};
+ghost use lib.ListN.{length};
 ghost use Rattle.hexadecimal.specs.Text.{lineOf};
+ghost use Rattle.frame_reader.specs.Lines.{longestSheet};
 ghost use Rattle.frame_writer.specs.Frames.{refusalBytes};
-ghost use Rattle.frame_writer.specs.Page.{written};
-ghost use Rattle.desk.specs.Host.{refusedLine, hostReply};
+ghost use Rattle.line_writer.specs.Page.{written};
+ghost use Rattle.host.specs.Host.{refusedLine, endOf, hostReply};
 ghost use Rattle.host.specs.Replies.{repliedOn};
-use desk::read_sheet;
+use calls::host_line;
 use filing::file_plan;
-use frame_writer::Placing;
+use frame_reader::line_end;
+use line_writer::Placing;
+use planner::Roster;
+
+const LONGEST_SHEET: usize = 65536;
+
+// How a sheet ends: the number of the refusal and of the line that it refuses, both 0 where there is none, and the roster.
+struct Ended {
+    pub number: u8,
+    pub line: u32,
+    pub roster: Roster,
+}
+
+// The lines of a sheet up to the first that is refused.
+fn read_lines(sheet: &[u8]) -> Ended
+    requires { ⌜ length (now sheet) ≤ longestSheet ⌝ }
+    ensures { λ r. ⌜ r ≡ endOf (now (sheet .entry)) ⌝ }
+{
+    let mut roster = Roster::empty();
+    let mut at = 0;
+    let mut line: u32 = 0;
+    while at < sheet.len() {
+        let next = line_end(sheet, at);
+        let made = host_line(roster, &sheet[at..next]);
+        let answer = made.answer;
+        let after = made.roster;
+        roster = after;
+        let number = answer.number();
+        at = next;
+        line += 1;
+        if number != 0 {
+            return Ended {
+                number,
+                line,
+                roster,
+            };
+        }
+    }
+    Ended {
+        number: 0,
+        line: 0,
+        roster,
+    }
+}
+
+// How a sheet ends.
+fn read_sheet(sheet: &[u8]) -> Ended
+    ensures { λ r. ⌜ r ≡ endOf (now (sheet .entry)) ⌝ }
+{
+    if LONGEST_SHEET < sheet.len() {
+        let roster = Roster::empty();
+        return Ended {
+            number: 5,
+            line: 0,
+            roster,
+        };
+    }
+    read_lines(sheet)
+}
 
 // Reads a sheet to its first refused line, or writes the plan of the roster at its end.
 #[no_mangle]
@@ -15,9 +76,9 @@ pub extern "C" fn planner_plan_sheet(sheet: &[u8], page: &mut [u8], place: usize
     ensures { λ r. ⌜ repliedOn r (now (page .exit)) ≡ hostReply (now (sheet .entry)) (now (page .entry)) place ⌝ }
 {
     let ended = read_sheet(sheet);
-    let number = ended.number;
-    if number != 0 {
-        return number as u32;
+    let refusal = ended.number;
+    if refusal != 0 {
+        return refusal as u32;
     }
     let roster = ended.roster;
     let filing = file_plan(roster, page, place);

@@ -1,6 +1,6 @@
 -- Small lists of jobs and the edges of each test, by computation from the definitions.
 use mathlib.Core.Path.{refl}
-use Rattle.places.specs.Ranges.{oneTo, jobFits}
+use Rattle.ranges.specs.Ranges.{oneTo, jobFits}
 use Rattle.places.specs.Places.{unused, listedAfter, listed, has, before, insert, remove}
 use Rattle.places.specs.Claims.{PlaceTrials}
 
@@ -11,8 +11,6 @@ place-trials = record {
   goes-out = refl;
   stands-before = refl;
   is-there = refl;
-  fits = refl;
-  fits-not = refl;
   lists = refl;
   empty = refl;
 }

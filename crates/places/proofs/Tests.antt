@@ -5,38 +5,16 @@ use mathlib.Core.Path.{_≡_, refl, ap, ap₂, _∙_}
 use mathlib.Core.Logic.{_↔_, inl, inr}
 use mathlib.Core.Bool.{Bool, true, false, false≢true, _&&_, _||_, or-true}
 use mathlib.Core.List.{List, [], _∷_}
-use borrow.Author.Tests.{leb-true, le-leb, ltb-true, lt-ltb, eqb-true, eq-eqb}
+use borrow.Author.Tests.{ltb-true, lt-ltb, eqb-true, eq-eqb}
 use lib.Dec.{eqb}
 use lib.ListN.{length, replicate}
 use Rattle.gmf.specs.declared.Job.{Job}
 use Rattle.gmf.specs.Jobs.{JobInRange, ByRisingId, Every, job}
 use Rattle.gmf.proofs.Sums.{both-true}
 use Rattle.gmf.proofs.Hyperperiod.{every-map}
-use Rattle.places.specs.Ranges.{oneTo, jobFits}
+use Rattle.ranges.proofs.Results.{ranging}
 use Rattle.places.specs.Places.{noJob, unused, listedAfter, listed, has}
 use Rattle.places.specs.Claims.{HasId, TestRule}
-
--- ---- A number and a job
-
-number-rule : (n x : ℕ) → (oneTo n x ≡ true) ↔ ((1 ≤ x) × (x ≤ n))
-unfolding oneTo
-number-rule n x = (
-  λ t. let p = both-true _ _ t in (leb-true 1 x (p .0), leb-true x n (p .1)),
-  λ h. ap₂ _&&_ (le-leb 1 x (h .0)) (le-leb x n (h .1)),
-)
-
-job-rule : (id cost period : ℕ) → (jobFits id cost period ≡ true) ↔ JobInRange (job id cost period)
-unfolding jobFits
-job-rule id cost period = (
-  λ t. let p = both-true _ _ t in
-      let q = both-true _ _ (p .0) in
-      record {
-        id = number-rule 65535 id .0 (q .0);
-        cost = number-rule 65535 cost .0 (q .1);
-        period = number-rule 65535 period .0 (p .1);
-      },
-  λ r. ap₂ _&&_ (ap₂ _&&_ (number-rule 65535 id .1 (r .id)) (number-rule 65535 cost .1 (r .cost))) (number-rule 65535 period .1 (r .period)),
-)
 
 -- ---- Jobs in range by rising id
 
@@ -54,14 +32,14 @@ module _ (last : ℕ) (job : Job) (jobs : List Job) where
       let q = both-true _ _ (p .0) in
       record {
         above = ltb-true last (job .id) (q .0);
-        in-range = job-rule (job .id) (job .cost) (job .period) .0 (q .1);
+        in-range = ranging .rule .one-job (job .id) (job .cost) (job .period) .0 (q .1);
         rest = p .1;
       }
 
   pub listed-more : First → listedAfter last (job ∷ jobs) ≡ true
   unfolding listedAfter
   listed-more f =
-      ap₂ _&&_ (ap₂ _&&_ (lt-ltb last (job .id) (f .above)) (job-rule (job .id) (job .cost) (job .period) .1 (f .in-range))) (f .rest)
+      ap₂ _&&_ (ap₂ _&&_ (lt-ltb last (job .id) (f .above)) (ranging .rule .one-job (job .id) (job .cost) (job .period) .1 (f .in-range))) (f .rest)
 
 -- Every id is above another.
 abbrev pub Above : ℕ → List Job → Type 0
@@ -116,7 +94,7 @@ unused-told (place ∷ places) t =
     let r = both-true _ _ (q .0) in
     ap₂ _∷_ (same-job place noJob (eqb-true _ _ (r .0)) (eqb-true _ _ (r .1)) (eqb-true _ _ (q .1))) (unused-told places (p .1))
 
-unused-pad : (n : ℕ) → unused (replicate n noJob) ≡ true
+pub unused-pad : (n : ℕ) → unused (replicate n noJob) ≡ true
 unfolding unused
 unused-pad zero = refl
 unused-pad (suc n) = unused-pad n
@@ -142,4 +120,4 @@ told-has id (job ∷ jobs) (inl e) = rw (eq-eqb (job .id) id e)
 told-has id (job ∷ jobs) (inr h) = rw (told-has id jobs h) (or-true (eqb (job .id) id))
 
 pub test-rule : TestRule
-test-rule = record { number = number-rule; one-job = job-rule; jobs = jobs-rule; held = λ id jobs. (has-told id jobs, told-has id jobs); places = places-rule }
+test-rule = record { jobs = jobs-rule; held = λ id jobs. (has-told id jobs, told-has id jobs); places = places-rule }

@@ -2,13 +2,12 @@
 use Prim.Native.Nat.{ℕ, suc, _≤_, _<_}
 use mathlib.Core.Path.{_≡_}
 use mathlib.Core.Logic.{_↔_, _⊎_}
-use mathlib.Core.Bool.{true, false, _&&_, _||_}
+use mathlib.Core.Bool.{true, false}
 use mathlib.Core.List.{List, [], _∷_, _++_, map}
 use lib.Dec.{eqb}
 use lib.ListN.{length, take, drop, getD, replicate}
 use Rattle.gmf.specs.declared.Job.{Job}
 use Rattle.gmf.specs.Jobs.{JobInRange, ByRisingId, Every, job}
-use Rattle.places.specs.Ranges.{oneTo, jobFits}
 use Rattle.places.specs.Places.{noJob, placesOf, unused, listed, has, before, insert, remove}
 
 -- A job with the id is one of a list.
@@ -18,8 +17,6 @@ HasId id (job ∷ jobs) = (job .id ≡ id) ⊎ HasId id jobs
 
 -- The tests say what the statements of gmf say; and "New id: no job in the book has it."
 pub record TestRule : Type 0 where
-  pub number : (n x : ℕ) → (oneTo n x ≡ true) ↔ ((1 ≤ x) × (x ≤ n))
-  pub one-job : (id cost period : ℕ) → (jobFits id cost period ≡ true) ↔ JobInRange (job id cost period)
   pub jobs : (jobs : List Job) → (listed jobs ≡ true) ↔ (Every JobInRange jobs × ByRisingId jobs)
   pub held : (id : ℕ) (jobs : List Job) → (has id jobs ≡ true) ↔ HasId id jobs
   pub places : (places : List Job) → (unused places ≡ true) ↔ (places ≡ replicate (length places) noJob)
@@ -61,8 +58,6 @@ pub record PlaceTrials : Type 0 where
   pub goes-out : remove 3 (job 3 1 2 ∷ job 9 1 2 ∷ []) ≡ job 9 1 2 ∷ []
   pub stands-before : map (λ id. before id (job 3 1 2 ∷ job 9 1 2 ∷ [])) (2 ∷ 3 ∷ 4 ∷ 9 ∷ 10 ∷ []) ≡ 0 ∷ 0 ∷ 1 ∷ 1 ∷ 2 ∷ []
   pub is-there : map (λ id. has id (job 3 1 2 ∷ job 9 1 2 ∷ [])) (3 ∷ 4 ∷ 9 ∷ []) ≡ true ∷ false ∷ true ∷ []
-  pub fits : jobFits 1 1 1 && jobFits 65535 65535 65535 ≡ true
-  pub fits-not : jobFits 0 1 1 || jobFits 65536 1 1 || jobFits 1 0 1 || jobFits 1 65536 1 || jobFits 1 1 0 || jobFits 1 1 65536 ≡ false
   pub lists : map listed ((job 1 1 1 ∷ job 2 1 1 ∷ []) ∷ (job 2 1 1 ∷ job 2 1 1 ∷ []) ∷ (job 2 1 1 ∷ job 1 1 1 ∷ []) ∷ (job 1 0 1 ∷ []) ∷ [])
       ≡ true ∷ false ∷ false ∷ false ∷ []
   pub empty : map unused ([] ∷ (noJob ∷ noJob ∷ []) ∷ (noJob ∷ job 1 0 0 ∷ []) ∷ (job 0 1 0 ∷ []) ∷ (job 0 0 1 ∷ []) ∷ [])

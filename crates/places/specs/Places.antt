@@ -7,7 +7,7 @@ use lib.Dec.{eqb, ltb}
 use lib.ListN.{length, replicate}
 use Rattle.gmf.specs.declared.Job.{Job}
 use Rattle.gmf.specs.Jobs.{job}
-use Rattle.places.specs.Ranges.{jobFits}
+use Rattle.ranges.specs.Ranges.{jobFits}
 
 -- What an unused place holds.
 abbrev pub noJob : Job

@@ -7,22 +7,24 @@ use Rattle.gmf.specs.Capacity.{insert, sortDescending, largest, capacity}
 use Rattle.gmf.specs.Growing.{slowest, raise, demand, holds, raisesLeft, raiseWhileFails, step, steps, growing, planOf}
 use Rattle.gmf.specs.Power.{rise, cube, tabulate, cubes, defaultTable}
 use Rattle.gmf.specs.Trials.{jobsFrom}
-use Rattle.places.specs.Ranges.{oneTo, jobFits}
+use Rattle.ranges.specs.Ranges.{oneTo, jobFits}
 use Rattle.places.specs.Places.{placesOf, unused, listedAfter, listed, has, remove}
 use Rattle.places.specs.Places as places
 use Rattle.power_tables.specs.Entries.{entriesOf, zeros}
 use Rattle.power_tables.specs.Tables.{allBelow, isTable}
-use Rattle.planner.specs.Tests.{speedsFit, tooLong, foundNone, noPlan}
+use Rattle.ranges.specs.Ranges.{speedsFit}
+use Rattle.roster_shape.specs.Shape.{inShape as shapeTest, allZero as zeroTest}
+use Rattle.planner.specs.Tests.{tooLong, foundNone, noPlan}
 use Rattle.planner.specs.Model.{refuseIf, isOpen, onMachine, opened, weighed, admitted, retired}
 use Rattle.planner.specs.Model as model
-use Rattle.planner.specs.Roster.{emptyRoster, modelOf, rosterOf, inShape, sound, allZero, wellFormed, replied, replyTo}
-use Rattle.planner.specs.Calls.{refusalNumber, numberOf, outcomeNumber, after, modelNumbers, modelAfter, rosterAfter}
+use Rattle.planner.specs.Roster.{emptyRoster, modelOf, rosterOf, sound, wellFormed, replied, replyTo}
+use Rattle.refusals.specs.Numbers.{refusalNumber, numberOf}
+use Rattle.planner.specs.Calls.{outcomeNumber, after, modelNumbers, modelAfter, rosterAfter}
 use Rattle.planner.specs.Claims.{rosterWith, CallTrials, ExampleCalls, FormTrials}
 
 pub call-trials : CallTrials
-unfolding euclid gcd lcm speed top window hyperperiod work works insert sortDescending largest capacity slowest raise demand holds raisesLeft raiseWhileFails step steps growing planOf rise cube tabulate cubes defaultTable machine jobsFrom entriesOf zeros oneTo jobFits placesOf unused listedAfter listed has remove places.insert speedsFit allBelow isTable tooLong foundNone noPlan refuseIf isOpen onMachine opened weighed admitted retired model.step refusalNumber numberOf outcomeNumber after modelNumbers modelAfter emptyRoster modelOf rosterOf inShape sound allZero wellFormed replied replyTo rosterAfter rosterWith
+unfolding euclid gcd lcm speed top window hyperperiod work works insert sortDescending largest capacity slowest raise demand holds raisesLeft raiseWhileFails step steps growing planOf rise cube tabulate cubes defaultTable machine jobsFrom entriesOf zeros oneTo jobFits placesOf unused listedAfter listed has remove places.insert speedsFit allBelow isTable tooLong foundNone noPlan refuseIf isOpen onMachine opened weighed admitted retired model.step refusalNumber numberOf outcomeNumber after modelNumbers modelAfter emptyRoster modelOf rosterOf shapeTest sound zeroTest wellFormed replied replyTo rosterAfter rosterWith
 call-trials = record {
-  numbers = refl;
   sheet = refl;
   none-open = refl;
   one-open = refl;
@@ -48,5 +50,5 @@ example-calls = record {
 }
 
 pub form-trials : FormTrials
-unfolding euclid gcd lcm speed top window hyperperiod work works insert sortDescending largest capacity slowest raise demand holds raisesLeft raiseWhileFails step steps growing planOf rise machine jobsFrom entriesOf zeros oneTo jobFits placesOf unused listedAfter listed speedsFit allBelow isTable tooLong foundNone noPlan emptyRoster inShape sound allZero wellFormed rosterWith
+unfolding euclid gcd lcm speed top window hyperperiod work works insert sortDescending largest capacity slowest raise demand holds raisesLeft raiseWhileFails step steps growing planOf rise machine jobsFrom entriesOf zeros oneTo jobFits placesOf unused listedAfter listed speedsFit allBelow isTable tooLong foundNone noPlan emptyRoster shapeTest sound zeroTest wellFormed rosterWith
 form-trials = record { kept = refl; not-empty = refl; not-a-machine = refl; not-places = refl; not-planned = refl }

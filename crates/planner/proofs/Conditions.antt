@@ -22,14 +22,13 @@ use Rattle.workload.specs.Claims.{Tells}
 use Rattle.workload.proofs.Loads.{says-within, says-too-long}
 use Rattle.workload.proofs.Results.{workload}
 use Rattle.planner.specs.declared.Roster.{Roster}
-use Rattle.planner.specs.declared.Condition.{Condition}
 use Rattle.planner.specs.declared.Condition.the-variants as condition
 use Rattle.planner.specs.Tests.{tooLong}
 use Rattle.planner.specs.Model.{Closed}
 use Rattle.planner.specs.Roster.{modelOf, inShape, sound, allZero, wellFormed, conditionOf, inspected}
 use Rattle.planner.proofs.TestRules.{passes-none}
 use Rattle.planner.proofs.Passing.{long-not, passes-plan}
-use Rattle.planner.proofs.Forms.{form-none, model-none, model-open, zero-none, Shape, shape-of}
+use Rattle.planner.proofs.Forms.{model-none, model-open, zero-none, Shape, shape-of}
 
 -- ---- By the test of the form
 
@@ -53,9 +52,6 @@ load-tells M in-range jobs ranges l l-is v e =
 pub inspect-closed : (r : Roster) → allZero r ≡ true → condition.Closed ≡ inspected r
 unfolding conditionOf wellFormed
 inspect-closed r e = ap conditionOf (sym (model-none r (zero-none r e))) ∙ undamaged r (rw e)
-
-pub inspect-not-zero : (r : Roster) → r .machine .processors ≡ 0 → allZero r ≡ false → condition.Damaged ≡ inspected r
-inspect-not-zero r none e = damaged r (form-none r none ∙ e)
 
 -- A roster that is not all zeros.
 module _ (r : Roster) (not-zero : allZero r ≡ false) where

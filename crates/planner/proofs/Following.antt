@@ -8,12 +8,12 @@ use borrow.Author.Tests.{eq-eqb, lt-leb}
 use lib.ListN.{length}
 use Rattle.gmf.specs.declared.Machine.{Machine}
 use Rattle.gmf.specs.declared.Job.{Job}
-use Rattle.gmf.specs.Jobs.{hyperperiod, works, job}
+use Rattle.gmf.specs.Jobs.{hyperperiod, works}
 use Rattle.gmf.specs.Claims.{Feasible, NonePasses}
 use Rattle.places.specs.Places.{insert}
-use Rattle.places.proofs.Results.{placing}
+use Rattle.ranges.proofs.Results.{ranging}
 use Rattle.planner.specs.declared.Roster.{Roster}
-use Rattle.planner.specs.declared.Refusal.the-variants.{NoPlan}
+use Rattle.refusals.specs.declared.Refusal.the-variants.{NoPlan}
 use Rattle.planner.specs.Tests.{noPlan}
 use Rattle.planner.specs.Model.{
   Model,
@@ -30,8 +30,9 @@ use Rattle.planner.specs.Model.{
   step,
 }
 use Rattle.planner.specs.Roster.{rosterOf, replied, replyTo}
-use Rattle.planner.specs.Calls.{refusalNumber, numberOf, outcomeNumber, after}
-use Rattle.planner.specs.Claims.{Rules, Kept, CallRule, OneCall, Offered, answerTo, TurnedDown, TurnsDown}
+use Rattle.refusals.specs.Numbers.{refusalNumber, numberOf}
+use Rattle.planner.specs.Calls.{outcomeNumber, after}
+use Rattle.planner.specs.Claims.{Rules, Kept, OneCall, Offered, answerTo, TurnedDown, TurnsDown}
 use Rattle.planner.proofs.TestRules.{none-passes, passes-none}
 use Rattle.planner.proofs.Passing.{long-not, plan-passes, passes-plan}
 use Rattle.planner.proofs.Forms.{kept-form, kept-model}
@@ -101,7 +102,7 @@ module _ (M : Machine) (table : List ℕ) (jobs : List Job) (rules : Rules M tab
   unfolding step onMachine admitted weighed refuseIf
   only-17 =
       rw (
-        placing .tests .one-job (new .id) (new .cost) (new .period) .1 (offered .in-range),
+        ranging .rule .one-job (new .id) (new .cost) (new .period) .1 (offered .in-range),
         offered .new-id,
         lt-leb 64 (length jobs) (offered .place-free),
         long-not more (offered .within-limit),

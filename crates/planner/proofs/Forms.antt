@@ -15,26 +15,24 @@ use Rattle.gmf.specs.declared.Job.{Job}
 use Rattle.gmf.specs.Machine.{InRange, machine}
 use Rattle.gmf.specs.Jobs.{JobInRange, ByRisingId, Every}
 use Rattle.gmf.specs.Power.{IsTable}
-use Rattle.places.specs.Ranges.{oneTo}
+use Rattle.ranges.specs.Ranges.{oneTo}
 use Rattle.places.specs.Places.{noJob, placesOf, unused, listed}
+use Rattle.places.proofs.Tests.{unused-pad}
 use Rattle.places.proofs.Results.{placing}
 use Rattle.power_tables.specs.Entries.{entriesOf, zeros}
 use Rattle.power_tables.proofs.Entries.{zeros-is, is-zeros}
+use Rattle.roster_shape.specs.Shape.{inShape as shapeTest, allZero as zeroTest}
 use Rattle.planner.specs.declared.Roster.{Roster}
 use Rattle.planner.specs.Model.{Model, Closed, Opened}
 use Rattle.power_tables.specs.Tables.{isTable}
-use Rattle.planner.specs.Tests.{speedsFit, tooLong, noPlan}
+use Rattle.ranges.specs.Ranges.{speedsFit}
+use Rattle.planner.specs.Tests.{tooLong, noPlan}
 use Rattle.planner.specs.Roster.{emptyRoster, modelOf, rosterOf, inShape, allZero, sound, wellFormed}
 use Rattle.planner.specs.Claims.{Rules, IsSound, FormRule, Forms, Kept}
 use Rattle.gmf.proofs.Sums.{both-true}
 use Rattle.power_tables.proofs.Results.{table-laws}
-use Rattle.planner.proofs.TestRules.{machine-range, range-processors, range-speeds}
+use Rattle.ranges.proofs.Rules.{machine-range, range-processors, range-speeds}
 use Rattle.planner.proofs.Passing.{not-long, long-not, plan-passes, passes-plan}
-
--- ---- Unused places
-
-unused-is : (n : ℕ) → unused (replicate n noJob) ≡ true
-unused-is n = placing .tests .places (replicate n noJob) .1 (ap (λ (k : ℕ). replicate k noJob) (sym (length-replicate n noJob)))
 
 -- ---- Jobs that keep the rules
 
@@ -45,15 +43,15 @@ rules-listed M table jobs rules = placing .tests .jobs jobs .1 (rules .job-range
 
 -- With no processor a roster is not in shape, and with one it is not all zeros.
 no-shape : (r : Roster) → r .machine .processors ≡ 0 → sound r ≡ false
-unfolding sound inShape oneTo
+unfolding sound shapeTest oneTo
 no-shape r e = rw (lt-leb 1 (r .machine .processors) (omega arith))
 
-pub form-none : (r : Roster) → r .machine .processors ≡ 0 → wellFormed r ≡ allZero r
+form-none : (r : Roster) → r .machine .processors ≡ 0 → wellFormed r ≡ allZero r
 unfolding wellFormed
 form-none r e = rw (no-shape r e) (or-false (allZero r))
 
 pub form-open : (r : Roster) → (r .machine .processors ≡ 0 → ⊥) → wellFormed r ≡ sound r
-unfolding wellFormed allZero
+unfolding wellFormed zeroTest
 form-open r n = rw (ne-eqb (r .machine .processors) 0 n)
 
 pub model-none : (r : Roster) → r .machine .processors ≡ 0 → modelOf r ≡ Closed
@@ -74,7 +72,7 @@ pub same-roster : (m L b d m′ L′ b′ d′ h h′ : ℕ) (t t′ : List ℕ)
 same-roster m L b d m′ L′ b′ d′ h h′ t t′ js js′ e₁ e₂ e₃ e₄ e₅ e₆ e₇ = cc
 
 pub empty-form : wellFormed emptyRoster ≡ true
-unfolding wellFormed allZero emptyRoster machine zeros unused
+unfolding wellFormed zeroTest emptyRoster machine zeros unused
 empty-form = refl
 
 pub closed-roster : rosterOf Closed ≡ emptyRoster
@@ -82,7 +80,7 @@ unfolding rosterOf
 closed-roster = refl
 
 pub zero-none : (r : Roster) → allZero r ≡ true → r .machine .processors ≡ 0
-unfolding allZero
+unfolding zeroTest
 zero-none r e =
     let z = both-true _ (unused (r .jobs)) e in
     let y = both-true _ (zeros (r .table)) (z .0) in
@@ -93,7 +91,7 @@ zero-none r e =
 
 module _ (r : Roster) (entries : length (r .table) ≡ 32) (places : length (r .jobs) ≡ 64) where
   zero-empty : allZero r ≡ true → r ≡ emptyRoster
-  unfolding allZero emptyRoster machine
+  unfolding zeroTest emptyRoster machine
   zero-empty e =
       let z = both-true _ (unused (r .jobs)) e in
       let y = both-true _ (zeros (r .table)) (z .0) in
@@ -129,7 +127,7 @@ module _ (r : Roster) (entries : length (r .table) ≡ 32) (places : length (r .
     pub places-after : unused (drop (r .held) (r .jobs)) ≡ true
 
   pub shape-of : inShape r ≡ true → Shape
-  unfolding inShape machine
+  unfolding shapeTest machine
   shape-of e =
       let z = both-true _ (unused (drop (r .held) (r .jobs))) e in
       let y = both-true _ (listed held-jobs) (z .0) in
@@ -171,7 +169,7 @@ module _ (r : Roster) (entries : length (r .table) ≡ 32) (places : length (r .
       }
 
   is-sound : IsSound r → sound r ≡ true
-  unfolding sound inShape machine
+  unfolding sound shapeTest machine
   is-sound s =
       let k = s .rules in
       ap₂ _&&_
@@ -187,7 +185,7 @@ module _ (r : Roster) (entries : length (r .table) ≡ 32) (places : length (r .
       (ap zeros (s .unused-entries) ∙ is-zeros (32 - M .levels)))
       (le-leb (r .held) 64 (s .places)))
       (rules-listed M numbers held-jobs k))
-      (ap unused (s .unused-places) ∙ unused-is (64 - r .held)))
+      (ap unused (s .unused-places) ∙ unused-pad (64 - r .held)))
       (ap not (long-not held-jobs (k .within-limit))))
       (ap not (passes-plan M (k .machine-range) held-jobs (k .some-plan)))
 

@@ -1,9 +1,7 @@
 pub mod AcceptanceTrials
 pub mod TestRules
-pub mod Numbers
 pub mod Passing
 pub mod Forms
-pub mod Shapes
 pub mod Looking
 pub mod Conditions
 pub mod Outcomes

@@ -9,11 +9,12 @@ use Rattle.gmf.specs.declared.Machine.{Machine}
 use Rattle.gmf.specs.declared.Job.{Job}
 use Rattle.gmf.specs.Machine.{machine}
 use Rattle.gmf.specs.Jobs.{job}
-use Rattle.places.specs.Ranges.{oneTo, jobFits}
+use Rattle.ranges.specs.Ranges.{oneTo, jobFits}
 use Rattle.places.specs.Places.{has, insert, remove}
-use Rattle.planner.specs.declared.Refusal.the-variants.{Processors, Speeds, PowerTable, JobNumbers, IdHeld, IdNotHeld, PlacesFull, HyperperiodTooLong, NoPlan}
+use Rattle.refusals.specs.declared.Refusal.the-variants.{Processors, Speeds, PowerTable, JobNumbers, IdHeld, IdNotHeld, PlacesFull, HyperperiodTooLong, NoPlan}
 use Rattle.power_tables.specs.Tables.{isTable}
-use Rattle.planner.specs.Tests.{speedsFit, tooLong, noPlan}
+use Rattle.ranges.specs.Ranges.{speedsFit}
+use Rattle.planner.specs.Tests.{tooLong, noPlan}
 use Rattle.planner.specs.Model.{Closed, Opened, OpenMachine, ReplaceTable, Admit, Retire, refused, accepted, refuseIf, isOpen, onMachine, opened, weighed, admitted, retired, step}
 
 -- ---- No machine

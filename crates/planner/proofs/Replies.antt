@@ -10,7 +10,7 @@ use lib.Seq.{length-take-le, take-all}
 use Rattle.gmf.specs.declared.Machine.{Machine}
 use Rattle.gmf.specs.declared.Job.{Job}
 use Rattle.gmf.specs.Machine.{InRange, machine}
-use Rattle.gmf.specs.Jobs.{JobInRange, hyperperiod, hyperperiodLimit, job}
+use Rattle.gmf.specs.Jobs.{JobInRange, hyperperiod, hyperperiodLimit}
 use Rattle.gmf.specs.Power.{defaultTable}
 use Rattle.places.specs.Places.{noJob, placesOf, listed, has, before, insert, remove}
 use Rattle.places.proofs.Results.{placing}
@@ -27,11 +27,11 @@ use Rattle.workload.proofs.Loads.{load-within}
 use Rattle.workload.proofs.Results.{workload}
 use Rattle.planner.specs.declared.Roster.{Roster}
 use Rattle.planner.specs.declared.Reply.{Reply}
-use Rattle.planner.specs.declared.Answer.the-variants.{Accepted}
+use Rattle.refusals.specs.declared.Answer.the-variants.{Accepted}
 use Rattle.planner.specs.declared.Condition.{Condition}
 use Rattle.planner.specs.declared.Condition.the-variants as condition
-use Rattle.planner.specs.declared.Refusal.{Refusal}
-use Rattle.planner.specs.declared.Refusal.the-variants.{Damaged, NoMachine, MachineOpen, IdHeld, IdNotHeld, PlacesFull, HyperperiodTooLong, NoPlan}
+use Rattle.refusals.specs.declared.Refusal.{Refusal}
+use Rattle.refusals.specs.declared.Refusal.the-variants.{Damaged, NoMachine, MachineOpen, IdHeld, IdNotHeld, PlacesFull, HyperperiodTooLong, NoPlan}
 use Rattle.power_tables.specs.Tables.{isTable}
 use Rattle.planner.specs.Tests.{tooLong}
 use Rattle.planner.specs.Model.{

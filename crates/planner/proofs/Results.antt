@@ -2,7 +2,6 @@
 use Rattle.planner.specs.Claims.{Planner}
 use Rattle.planner.proofs.AcceptanceTrials.{call-trials, example-calls, form-trials}
 use Rattle.planner.proofs.TestRules.{test-rule}
-use Rattle.planner.proofs.Numbers.{number-rule}
 use Rattle.planner.proofs.Forms.{closed-roster, forms}
 use Rattle.planner.proofs.Replies.{inspects}
 use Rattle.planner.proofs.Following.{one-call, turns-down}
@@ -10,7 +9,6 @@ use Rattle.planner.proofs.Following.{one-call, turns-down}
 pub planner : Planner
 planner = record {
   tests = test-rule;
-  numbers = number-rule;
   begins = closed-roster;
   forms = forms;
   inspects = inspects;

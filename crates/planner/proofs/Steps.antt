@@ -17,14 +17,16 @@ use Rattle.gmf.proofs.Hyperperiod.{in-range-positive}
 use Rattle.gmf.proofs.Results.{method}
 use Rattle.places.specs.Places.{has, insert, remove}
 use Rattle.places.proofs.Results.{placing}
-use Rattle.planner.specs.declared.Refusal.{Refusal}
+use Rattle.ranges.proofs.Results.{ranging}
+use Rattle.refusals.specs.declared.Refusal.{Refusal}
 use Rattle.power_tables.specs.Tables.{isTable}
 use Rattle.planner.specs.Tests.{tooLong, noPlan}
 use Rattle.planner.specs.Model.{Model, Closed, Opened, Call, OpenMachine, ReplaceTable, Admit, Retire, Outcome, refused, accepted, refuseIf, onMachine, opened, weighed, admitted, retired, step}
-use Rattle.planner.specs.Calls.{refusalNumber, after}
+use Rattle.refusals.specs.Numbers.{refusalNumber}
+use Rattle.planner.specs.Calls.{after}
 use Rattle.planner.specs.Claims.{Rules, Kept}
 use Rattle.power_tables.proofs.Results.{table-laws}
-use Rattle.planner.proofs.TestRules.{machine-range}
+use Rattle.ranges.proofs.Rules.{machine-range}
 use Rattle.planner.proofs.Passing.{not-long, plan-passes}
 use Rattle.planner.proofs.Forms.{rules-listed}
 
@@ -145,7 +147,7 @@ fair-step model (Admit id cost period) kept =
     guarded _ _ _ refl (λ free.
     guarded _ _ _ refl (λ short.
     guarded _ _ _ refl (λ passing.
-    turns (admits M table jobs rules few (job id cost period) (placing .tests .one-job id cost period .0 (not-false _ h)) fresh
+    turns (admits M table jobs rules few (job id cost period) (ranging .rule .one-job id cost period .0 (not-false _ h)) fresh
     (leb-false 64 (length jobs) free) short passing)))))))
 fair-step model (Retire id) kept =
     on-machine model _ kept (λ M table jobs rules few.

@@ -1,52 +1,12 @@
--- The numbers of answers, and lists of these calls, for the known results (desk has the lists of all calls).
+-- The numbers of what calls do, and lists of these calls, for the known results (the crate calls has the lists of all calls).
 use Prim.Native.Nat.{ℕ}
 use mathlib.Core.List.{List, [], _∷_}
+use Rattle.refusals.specs.Numbers.{refusalNumber}
 use Rattle.planner.specs.declared.Roster.{Roster}
-use Rattle.planner.specs.declared.Refusal.{Refusal}
-use Rattle.planner.specs.declared.Refusal.the-variants.{
-  Processors,
-  Speeds,
-  PowerTable,
-  JobNumbers,
-  Damaged,
-  NoMachine,
-  MachineOpen,
-  IdHeld,
-  IdNotHeld,
-  PlacesFull,
-  HyperperiodTooLong,
-  NoPlan,
-  Malformed,
-  NoRoom,
-}
-use Rattle.planner.specs.declared.Answer.{Answer}
-use Rattle.planner.specs.declared.Answer.the-variants.{Accepted, Refused}
 use Rattle.planner.specs.Model.{Model, Call, Outcome, refused, accepted, step}
 use Rattle.planner.specs.Roster.{replyTo}
 
--- 01's numbers ("Turned down because of the input", "Turned down because of the state").
-unfoldable pub refusalNumber : Refusal → ℕ
-refusalNumber Processors = 1
-refusalNumber Speeds = 2
-refusalNumber PowerTable = 3
-refusalNumber JobNumbers = 4
-refusalNumber Damaged = 7
-refusalNumber NoMachine = 11
-refusalNumber MachineOpen = 12
-refusalNumber IdHeld = 13
-refusalNumber IdNotHeld = 14
-refusalNumber PlacesFull = 15
-refusalNumber HyperperiodTooLong = 16
-refusalNumber NoPlan = 17
-refusalNumber Malformed = 5
-refusalNumber NoRoom = 6
-
--- "Compared are each call's acceptance or refusal number …": 0 is acceptance.
-unfoldable pub numberOf : Answer → ℕ
-numberOf Accepted = 0
-numberOf (Refused refusal) = refusalNumber refusal
-
--- The same number of what a call does to the model.
+-- The number of what a call does to the model, as `numberOf` has that of an answer.
 unfoldable pub outcomeNumber : Outcome → ℕ
 outcomeNumber (refused refusal) = refusalNumber refusal
 outcomeNumber (accepted model) = 0

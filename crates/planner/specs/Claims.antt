@@ -2,7 +2,7 @@
 use Prim.Native.Nat.{ℕ, _-_, _≤_, _<_}
 use mathlib.Core.Path.{_≡_}
 use mathlib.Core.Logic.{_↔_, _⊎_}
-use mathlib.Core.Bool.{true, false, _&&_}
+use mathlib.Core.Bool.{true, false}
 use mathlib.Core.List.{List, [], _∷_, map}
 use lib.ListN.{length, take, drop, replicate}
 use Rattle.gmf.specs.declared.Machine.{Machine}
@@ -12,58 +12,25 @@ use Rattle.gmf.specs.Jobs.{JobInRange, ByRisingId, Every, hyperperiod, hyperper
 use Rattle.gmf.specs.Power.{IsTable}
 use Rattle.gmf.specs.Trials.{jobsFrom}
 use Rattle.gmf.specs.Claims.{Feasible, NonePasses}
-use Rattle.places.specs.Ranges.{oneTo}
 use Rattle.places.specs.Places.{noJob, placesOf, has, insert}
 use Rattle.workload.specs.declared.Totals.{Totals}
 use Rattle.workload.specs.Load.{totals}
 use Rattle.power_tables.specs.Entries.{entriesOf}
 use Rattle.planner.specs.declared.Roster.{Roster}
 use Rattle.planner.specs.declared.Condition.the-variants as condition
-use Rattle.planner.specs.declared.Refusal.{Refusal}
-use Rattle.planner.specs.declared.Refusal.the-variants.{
-  Processors,
-  Speeds,
-  PowerTable,
-  JobNumbers,
-  Damaged,
-  NoMachine,
-  MachineOpen,
-  IdHeld,
-  IdNotHeld,
-  PlacesFull,
-  HyperperiodTooLong,
-  NoPlan,
-  Malformed,
-  NoRoom,
-}
-use Rattle.planner.specs.declared.Answer.{Answer}
-use Rattle.planner.specs.declared.Answer.the-variants.{Accepted, Refused}
-use Rattle.planner.specs.Tests.{speedsFit, tooLong, noPlan}
+use Rattle.refusals.specs.Numbers.{numberOf}
+use Rattle.planner.specs.Tests.{tooLong, noPlan}
 use Rattle.planner.specs.Model.{Model, Closed, Opened, Call, OpenMachine, ReplaceTable, Admit, Retire, step}
 use Rattle.planner.specs.Roster.{emptyRoster, modelOf, rosterOf, wellFormed, inspected, replyTo}
-use Rattle.planner.specs.Calls.{refusalNumber, numberOf, outcomeNumber, after, modelNumbers, modelAfter, rosterAfter}
+use Rattle.planner.specs.Calls.{outcomeNumber, after, modelNumbers, modelAfter, rosterAfter}
 
 -- ---- The tests say what 01 says
 
 pub record TestRule : Type 0 where
-  -- 1 and 2: the ranges of a machine.
-  pub machines : (m L b d : ℕ) → (oneTo 32 m && speedsFit L b d ≡ true) ↔ InRange (machine m L b d)
   -- 16: the hyperperiod is above its limit.
   pub limits : (jobs : List Job) → (tooLong jobs ≡ true) ↔ (hyperperiodLimit < hyperperiod jobs)
   -- 17: no plan passes.
   pub plans : (M : Machine) → InRange M → (jobs : List Job) → (noPlan M jobs ≡ true) ↔ NonePasses M (hyperperiod jobs) (works jobs)
-
--- ---- Numbers
-
--- What the numbers of answers say: 0 is acceptance alone, and each refusal has a number of its own, so that a number tells the answer.
-pub record NumberRule : Type 0 where
-  pub accepted : numberOf Accepted ≡ 0
-  pub refused : (refusal : Refusal) → numberOf (Refused refusal) ≡ refusalNumber refusal
-  pub never-0 : (refusal : Refusal) → refusalNumber refusal ≡ 0 → ⊥
-  pub one-answer : (a b : Answer) → numberOf a ≡ numberOf b → a ≡ b
-  pub malformed : refusalNumber Malformed ≡ 5
-  pub damaged : refusalNumber Damaged ≡ 7
-  pub no-machine : refusalNumber NoMachine ≡ 11
 
 -- ---- Well-formed rosters
 
@@ -154,25 +121,6 @@ unfoldable pub rosterWith : Machine → List ℕ → ℕ → List Job → Roster
 rosterWith M numbers held jobs = record { machine = M; table = entriesOf numbers; held = held; jobs = placesOf jobs }
 
 pub record CallTrials : Type 0 where
-  -- 01's numbers.
-  pub numbers : map numberOf (
-      Accepted
-      ∷ Refused Processors
-      ∷ Refused Speeds
-      ∷ Refused PowerTable
-      ∷ Refused JobNumbers
-      ∷ Refused Malformed
-      ∷ Refused NoRoom
-      ∷ Refused Damaged
-      ∷ Refused NoMachine
-      ∷ Refused MachineOpen
-      ∷ Refused IdHeld
-      ∷ Refused IdNotHeld
-      ∷ Refused PlacesFull
-      ∷ Refused HyperperiodTooLong
-      ∷ Refused NoPlan
-      ∷ []
-      ) ≡ 0 ∷ 1 ∷ 2 ∷ 3 ∷ 4 ∷ 5 ∷ 6 ∷ 7 ∷ 11 ∷ 12 ∷ 13 ∷ 14 ∷ 15 ∷ 16 ∷ 17 ∷ []
   -- 01's sheet up to its plan: the job 11/10 is refused by 17.
   pub sheet : modelNumbers Closed (
       OpenMachine 4 4 1 1
@@ -282,7 +230,6 @@ pub record FormTrials : Type 0 where
 
 pub record Planner : Type 0 where
   pub tests : TestRule
-  pub numbers : NumberRule
   -- "With no machine it is all zeros …"
   pub begins : rosterOf Closed ≡ emptyRoster
   pub forms : Forms

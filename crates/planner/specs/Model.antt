@@ -9,10 +9,10 @@ use Rattle.gmf.specs.declared.Job.{Job}
 use Rattle.gmf.specs.Power.{defaultTable}
 use Rattle.gmf.specs.Machine.{machine}
 use Rattle.gmf.specs.Jobs.{job}
-use Rattle.places.specs.Ranges.{oneTo, jobFits}
+use Rattle.ranges.specs.Ranges.{oneTo, jobFits}
 use Rattle.places.specs.Places.{has, insert, remove}
-use Rattle.planner.specs.declared.Refusal.{Refusal}
-use Rattle.planner.specs.declared.Refusal.the-variants.{
+use Rattle.refusals.specs.declared.Refusal.{Refusal}
+use Rattle.refusals.specs.declared.Refusal.the-variants.{
   Processors,
   Speeds,
   PowerTable,
@@ -26,7 +26,8 @@ use Rattle.planner.specs.declared.Refusal.the-variants.{
   NoPlan,
 }
 use Rattle.power_tables.specs.Tables.{isTable}
-use Rattle.planner.specs.Tests.{speedsFit, tooLong, noPlan}
+use Rattle.ranges.specs.Ranges.{speedsFit}
+use Rattle.planner.specs.Tests.{tooLong, noPlan}
 
 -- "It has a machine or none, a table and jobs by rising id. It begins with none of them."
 pub data Model : Type 0 where

@@ -7,23 +7,23 @@ ghost use lib.ListN.{take};
 ghost use Rattle.gmf.specs.Jobs.{JobInRange};
 ghost use Rattle.places.specs.Places.{listed, has, before};
 ghost use Rattle.workload.specs.Load as load;
-ghost use Rattle.planner.specs.Tests.{speedsFit};
 ghost use Rattle.planner.specs.Model.{OpenMachine, ReplaceTable, Admit, Retire, refused, onMachine, admitted, retired};
-ghost use Rattle.planner.specs.Roster.{emptyRoster, modelOf, allZero, inShape, inspected, replied, replyTo};
-ghost use Rattle.planner.specs.Calls.{refusalNumber, numberOf};
+ghost use Rattle.planner.specs.Roster.{emptyRoster, modelOf, inspected, replied, replyTo};
 ghost use Rattle.planner.specs.Claims.{IsSound};
 use gmf::Job;
 use gmf::Machine;
-use places::job_fits;
-use places::listed_to;
-use places::one_to;
-use places::put_in;
-use places::take_out;
-use places::unused_from;
+use house_table::default_table;
+use place_moves::put_in;
+use place_moves::take_out;
 use power_tables::accepts;
-use power_tables::all_zero;
-use power_tables::default_table;
 use power_tables::entries_of;
+use ranges::job_fits;
+use ranges::one_to;
+use ranges::speeds_fit;
+use refusals::Answer;
+use refusals::Refusal;
+use roster_shape::in_shape;
+use roster_shape::is_zero;
 use workload::Load;
 use workload::Totals;
 use workload::Verdict;
@@ -44,88 +44,10 @@ pub enum Condition {
     Open(Totals),
 }
 
-// Why a call is turned down.
-pub enum Refusal {
-    Processors,
-    Speeds,
-    PowerTable,
-    JobNumbers,
-    Damaged,
-    NoMachine,
-    MachineOpen,
-    IdHeld,
-    IdNotHeld,
-    PlacesFull,
-    HyperperiodTooLong,
-    NoPlan,
-    // of calls made as lines
-    Malformed,
-    // of calls that write on a page
-    NoRoom,
-}
-
-// What a call answers.
-pub enum Answer {
-    Accepted,
-    Refused(Refusal),
-}
-
 // The answer to a call, and the roster that comes back.
 pub struct Reply {
     pub answer: Answer,
     pub roster: Roster,
-}
-
-impl Refusal {
-    // 01's number of a refusal.
-    pub fn number(self) -> u8
-        ensures { λ r. ⌜ r ≡ refusalNumber self ⌝ }
-    {
-        match self {
-            Refusal::Processors => 1,
-            Refusal::Speeds => 2,
-            Refusal::PowerTable => 3,
-            Refusal::JobNumbers => 4,
-            Refusal::Damaged => 7,
-            Refusal::NoMachine => 11,
-            Refusal::MachineOpen => 12,
-            Refusal::IdHeld => 13,
-            Refusal::IdNotHeld => 14,
-            Refusal::PlacesFull => 15,
-            Refusal::HyperperiodTooLong => 16,
-            Refusal::NoPlan => 17,
-            Refusal::Malformed => 5,
-            Refusal::NoRoom => 6,
-        }
-    }
-}
-
-impl Answer {
-    // 0, or the number of the refusal.
-    pub fn number(self) -> u8
-        ensures { λ r. ⌜ r ≡ numberOf self ⌝ }
-    {
-        match self {
-            Answer::Accepted => 0,
-            Answer::Refused(refusal) => refusal.number(),
-        }
-    }
-}
-
-// Whether levels, lowest speed, step and top speed are in range.
-fn speeds_fit(levels: u64, lowest: u64, step: u64) -> bool
-    ensures { λ r. ⌜ r ≡ speedsFit levels lowest step ⌝ }
-{
-    if !one_to(32, levels) {
-        return false;
-    }
-    if !one_to(256, lowest) {
-        return false;
-    }
-    if !one_to(255, step) {
-        return false;
-    }
-    lowest + (levels - 1) * step <= 256
 }
 
 // How many of the first `held` jobs stand before an id: the ids rise, so each look halves what is left.
@@ -191,81 +113,24 @@ impl Roster {
         }
     }
 
-    // Whether every field is 0, as its processors are.
-    fn is_zero(self) -> bool
-        requires { ⌜ self .machine .processors ≡ 0 ⌝ }
-        ensures { λ r. ⌜ r ≡ allZero self ⌝ }
-    {
-        let machine = self.machine;
-        if machine.levels != 0 {
-            return false;
-        }
-        if machine.lowest != 0 {
-            return false;
-        }
-        if machine.step != 0 {
-            return false;
-        }
-        if self.held != 0 {
-            return false;
-        }
-        let table = self.table;
-        if !all_zero(&table) {
-            return false;
-        }
-        let jobs = self.jobs;
-        unused_from(jobs, 0)
-    }
-
-    // Whether the machine, its table and the places keep their rules; the cycle and the plan are still to be looked at.
-    fn in_shape(self) -> bool
-        ensures { λ r. ⌜ r ≡ inShape self ⌝ }
-    {
-        let machine = self.machine;
-        let table = self.table;
-        let jobs = self.jobs;
-        let held = self.held as usize;
-        if !one_to(32, machine.processors as u64) {
-            return false;
-        }
-        if !speeds_fit(
-            machine.levels as u64,
-            machine.lowest as u64,
-            machine.step as u64,
-        ) {
-            return false;
-        }
-        let levels = machine.levels as usize;
-        if !accepts(machine, &table[..levels]) {
-            return false;
-        }
-        if !all_zero(&table[levels..]) {
-            return false;
-        }
-        if !listed_to(jobs, held) {
-            return false;
-        }
-        unused_from(jobs, held)
-    }
-
     // Looks at every rule. One pass over the places and one over the jobs for their load.
     pub fn inspect(self) -> Condition
         ensures { λ r. ⌜ r ≡ inspected self ⌝ }
     {
-        if self.machine.processors == 0 {
-            if self.is_zero() {
-                return Condition::Closed;
-            }
-            return Condition::Damaged;
-        }
-        if !self.in_shape() {
-            return Condition::Damaged;
-        }
+        let machine = self.machine;
+        let table = self.table;
+        let held = self.held;
         let jobs = self.jobs;
-        let load = load_of(jobs, self.held as usize);
+        if is_zero(machine, table, held, jobs) {
+            return Condition::Closed;
+        }
+        if !in_shape(machine, table, held, jobs) {
+            return Condition::Damaged;
+        }
+        let load = load_of(jobs, held as usize);
         match load {
             Load::Within(totals) => {
-                let verdict = load.judge(self.machine.processors);
+                let verdict = load.judge(machine.processors);
                 match verdict {
                     Verdict::SomePlan => Condition::Open(totals),
                     Verdict::NoPlan => Condition::Damaged,

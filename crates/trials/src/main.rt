@@ -6,12 +6,12 @@ mod calls;
 mod compare;
 mod cycles;
 mod damaged;
+mod edges;
 mod full;
 mod held;
 mod list;
 mod order;
 mod print;
-mod ranges;
 mod tables;
 
 fn main() {
@@ -24,11 +24,11 @@ fn main() {
     tables::values();
     held::places();
     held::ids();
-    ranges::machines();
-    ranges::top_speeds();
-    ranges::wide_machines();
-    ranges::jobs();
-    ranges::retired();
+    edges::machines();
+    edges::top_speeds();
+    edges::wide_machines();
+    edges::jobs();
+    edges::retired();
     full::one_processor();
     full::more_processors();
     order::refusals();

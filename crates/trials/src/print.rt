@@ -1,7 +1,7 @@
 // What the trials print.
 use gmf::Job;
 use libc::STDOUT_FILENO;
-use places::unused_from;
+use place_checks::unused_from;
 use planner::Condition;
 use planner::Roster;
 use power_tables::all_zero;

@@ -1,13 +1,14 @@
 -- `desk::fill_lines` meets its contract.
-use Prim.Native.Nat.{ℕ, _+_, _-_, _≤_, _<_}
+use Prim.Native.Nat.{_-_, _≤_, _<_}
 use native.Mathlib.Omega.{arith}
-use mathlib.Core.Path.{_≡_, refl, sym, ap, _∙_}
+use mathlib.Core.Path.{ap, _∙_}
 use mathlib.Core.Logic.{inl, inr, ⊎-elim}
 use borrow.Author.Needs.{needs}
 use lib.ListN.{length}
 use Rattle.desk.specs.Pages.{settled, deskLine}
 use Rattle.desk.proofs.Filling.{made-fits}
-use Rattle.desk.proofs.Pages.{next-within, Filling-on, fill-begin, fill-ended, fill-full, fill-more}
+use Rattle.frame_reader.proofs.Lines.{next-within}
+use Rattle.desk.proofs.Pages.{Filling-on, fill-begin, fill-ended, fill-full, fill-more}
 use Rattle.desk.proofs.fill_lines.Statement.{statement}
 use Rattle.desk.proofs.fill_lines.Tie as tie
 

@@ -1,10 +1,7 @@
 -- `desk::put_refusal` meets its contract.
-use Prim.Native.Nat.{ℕ}
 use native.Mathlib.Omega.{arith}
-use mathlib.Core.Path.{_≡_, refl, sym, ap, _∙_}
-use mathlib.Core.List.{List}
+use mathlib.Core.Path.{ap}
 use borrow.Author.Needs.{needs}
-use lib.ListN.{length}
 use Rattle.hexadecimal.specs.Text.{lineOf}
 use Rattle.hexadecimal.proofs.Results.{hexadecimal}
 use Rattle.frame_writer.specs.Frames.{refusalBytes}

@@ -1,11 +1,9 @@
 -- `filing::file` meets its contract.
-use Prim.Native.Nat.{_+_, _*_}
 use native.Mathlib.Omega.{arith}
 use mathlib.Core.Path.{_≡_, refl, sym, ap, _∙_}
 use borrow.Author.Needs.{needs}
 use lib.ListN.{length, length-map}
 use lib.Seq.{length-take-le}
-use Rattle.frame_writer.specs.Page.{answered, written}
 use Rattle.filing.specs.declared.Filing.{Filing}
 use Rattle.filing.specs.Plans.{filedBy}
 use Rattle.filing.specs.Claims.{frameLength}

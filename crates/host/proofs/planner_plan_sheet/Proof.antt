@@ -1,5 +1,4 @@
 -- `host::planner_plan_sheet` meets its contract.
-use mathlib.Core.Path.{sym, ap, _∙_}
 use borrow.Author.Needs.{needs}
 use Rattle.host.proofs.Ending.{refused-reply, plan-reply}
 use Rattle.host.proofs.planner_plan_sheet.Statement.{statement}

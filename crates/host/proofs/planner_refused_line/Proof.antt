@@ -1,8 +1,8 @@
 -- `host::planner_refused_line` meets its contract.
 use mathlib.Core.Path.{ap}
 use borrow.Author.Needs.{needs}
-use Rattle.desk.specs.declared.Ended.{Ended}
-use Rattle.desk.specs.Host.{endOf}
+use Rattle.host.specs.declared.Ended.{Ended}
+use Rattle.host.specs.Host.{endOf}
 use Rattle.host.proofs.planner_refused_line.Statement.{statement}
 use Rattle.host.proofs.planner_refused_line.Tie as tie
 

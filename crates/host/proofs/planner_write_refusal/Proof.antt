@@ -1,8 +1,8 @@
 -- `host::planner_write_refusal` meets its contract.
 use mathlib.Core.Path.{sym, ap, _∙_}
 use borrow.Author.Needs.{needs}
-use Rattle.frame_writer.specs.declared.Placing.{Placing}
-use Rattle.frame_writer.specs.Page.{numberOf, answered}
+use Rattle.line_writer.specs.declared.Placing.{Placing}
+use Rattle.line_writer.specs.Page.{numberOf, answered}
 use Rattle.host.proofs.planner_write_refusal.Statement.{statement}
 use Rattle.host.proofs.planner_write_refusal.Tie as tie
 

@@ -1,9 +1,9 @@
 -- `studio_desk::answer` meets its contract.
-use Prim.Native.Nat.{ℕ, _+_, _-_, _≤_, _<_}
+use Prim.Native.Nat.{_-_, _≤_, _<_}
 use native.Mathlib.Omega.{arith}
 use mathlib.Core.Path.{_≡_, sym, ap, _∙_}
 use borrow.Author.Needs.{needs}
-use lib.ListN.{length, length-take}
+use lib.ListN.{length}
 use lib.Seq.{length-take-le}
 use Rattle.desk.specs.Pages.{Filling, filledOn, fillPage}
 use Rattle.desk.specs.Claims.{PageRule}

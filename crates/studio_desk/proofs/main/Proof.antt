@@ -4,7 +4,6 @@ use native.Mathlib.Omega.{arith}
 use Prim.Native.Nat.{_≤_}
 use lib.ListN.{length}
 use lib.Seq.{length-take-le}
-use Rattle.studio_desk.specs.declared.Input.{Input}
 use Rattle.studio_desk.specs.Input.{countIn}
 use borrow.Author.Needs.{needs}
 use Rattle.studio_desk.proofs.main.Statement.{statement}

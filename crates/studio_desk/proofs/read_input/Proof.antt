@@ -1,7 +1,7 @@
 -- `studio_desk::read_input` meets its contract.
-use Prim.Native.Nat.{ℕ, _+_, _-_, _≤_, _<_}
+use Prim.Native.Nat.{ℕ, _+_, _-_, _≤_}
 use native.Mathlib.Omega.{arith}
-use mathlib.Core.Path.{_≡_, sym, ap, _∙_}
+use mathlib.Core.Path.{_≡_, _∙_}
 use borrow.Author.Needs.{needs}
 use borrow.Rule.Slice.PartMut.{putMid, same-len-mid}
 use lib.ListN.{length, length-take, length-drop}

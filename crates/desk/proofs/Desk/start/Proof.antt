@@ -1,9 +1,7 @@
 -- `desk::Desk::start` meets its contract.
-use Prim.Native.Nat.{ℕ}
-use mathlib.Core.Path.{_≡_, refl, sym, ap, _∙_}
+use mathlib.Core.Path.{ap}
 use borrow.Author.Needs.{needs}
 use Rattle.planner.specs.declared.Roster.{Roster}
-use Rattle.desk.specs.declared.Desk.{Desk}
 use Rattle.desk.specs.Pages.{atStart}
 use Rattle.desk.proofs.Desk.start.Statement.{statement}
 use Rattle.desk.proofs.Desk.start.Tie as tie

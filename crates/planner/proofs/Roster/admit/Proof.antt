@@ -6,12 +6,12 @@ use borrow.Author.Needs.{needs}
 use borrow.Author.Tests.{not-true, not-false}
 use lib.ListN.{length, take, length-map}
 use Rattle.gmf.specs.Jobs.{JobInRange, job}
-use Rattle.places.specs.Ranges.{jobFits}
-use Rattle.places.proofs.Results.{placing}
+use Rattle.ranges.specs.Ranges.{jobFits}
+use Rattle.ranges.proofs.Results.{ranging}
 use Rattle.workload.specs.Load.{totals}
 use Rattle.planner.specs.Claims.{IsSound}
 use Rattle.planner.proofs.Outcomes.{admit-4, admit-in}
-use Rattle.planner.specs.declared.Refusal.the-variants.{Damaged, JobNumbers, NoMachine}
+use Rattle.refusals.specs.declared.Refusal.the-variants.{Damaged, JobNumbers, NoMachine}
 use Rattle.planner.proofs.Replies.{refused-by, is-open, reply-damaged, reply-open, admit-11, entered}
 use Rattle.planner.proofs.Roster.admit.Statement.{statement}
 use Rattle.planner.proofs.Roster.admit.Tie as tie
@@ -30,7 +30,7 @@ ranged c = sym (c .before .job-fits .ensures) ∙ not-false _ (c .if1 .left)
 in-range : (c : tie.Else1)
     → JobInRange (job (c .before .before .before .before .before .before .args .id) (c .before .before .before .before .before .before .args .cost)
     (c .before .before .before .before .before .before .args .period))
-in-range c = placing .tests .one-job _ _ _ .0 (ranged c)
+in-range c = ranging .rule .one-job _ _ _ .0 (ranged c)
 
 open-at : (c : tie.After-condition)
     → IsSound (c .before .before .before .args .self)

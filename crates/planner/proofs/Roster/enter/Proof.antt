@@ -4,7 +4,7 @@ use mathlib.Core.Bool.{false}
 use borrow.Author.Needs.{needs}
 use lib.ListN.{length, take, length-map}
 use Rattle.places.specs.Places.{has}
-use Rattle.planner.specs.declared.Refusal.the-variants.{HyperperiodTooLong, IdHeld, NoPlan, PlacesFull}
+use Rattle.refusals.specs.declared.Refusal.the-variants.{HyperperiodTooLong, IdHeld, NoPlan, PlacesFull}
 use Rattle.planner.proofs.Replies.{refused-by, held-listed, with-range, enter-held, enter-full, enter-long, enter-none, enter-in}
 use Rattle.planner.proofs.Roster.enter.Statement.{statement}
 use Rattle.planner.proofs.Roster.enter.Tie as tie

@@ -6,8 +6,7 @@ use borrow.Author.Tests.{not-true, not-false}
 use lib.ListN.{length, length-map}
 use Rattle.planner.specs.Roster.{allZero, inShape}
 use Rattle.planner.proofs.Forms.{shape-of}
-use Rattle.planner.proofs.Shapes.{zero-1}
-use Rattle.planner.proofs.Conditions.{inspect-closed, inspect-not-zero, inspect-shapeless, inspect-open, inspect-no-plan, inspect-too-long, inspect-long-load}
+use Rattle.planner.proofs.Conditions.{inspect-closed, inspect-shapeless, inspect-open, inspect-no-plan, inspect-too-long, inspect-long-load}
 use Rattle.planner.proofs.Roster.inspect.Statement.{statement}
 use Rattle.planner.proofs.Roster.inspect.Tie as tie
 
@@ -17,37 +16,38 @@ entries c = search needs
 places : (c : tie.Start) → length (c .args .self .jobs) ≡ 64
 places c = simp length-map at (c .good .0 .1 .1 .1 .1 .1 .0 .1 .0 .1)
 
-not-zero : (c : tie.Else1) → allZero (c .before .before .args .self) ≡ false
-not-zero c = sym (zero-1 _ (c .if1 .left))
-
-abbrev begin : tie.Else3 → tie.Start
+-- From the first test back to the roster that is looked at.
+abbrev begin : tie.After-is-zero → tie.Start
 begin c = c .before .before .before .before
 
-shaped : (c : tie.Else3) → inShape (begin c .args .self) ≡ true
-shaped c = sym (c .before .in-shape .ensures) ∙ not-false _ (c .if3 .left)
+not-zero : (c : tie.Else1) → allZero (begin (c .before) .args .self) ≡ false
+not-zero c = sym (c .before .is-zero .ensures) ∙ c .if1 .left
+
+abbrev first : tie.Else2 → tie.Else1
+first c = c .before .before
+
+shaped : (c : tie.Else2) → inShape (begin (first c .before) .args .self) ≡ true
+shaped c = sym (c .before .in-shape .ensures) ∙ not-false _ (c .if2 .left)
 
 is-zero-requires : tie.Need-is-zero-requires
-is-zero-requires c κs = c .if1 .taken
+is-zero-requires c κs = search needs
 
 returns : tie.Need-returns
-returns c = inspect-closed _ (sym (c .before .is-zero .ensures) ∙ c .if2 .taken)
-
-returns-2 : tie.Need-returns-2
-returns-2 c = let z = c .before in inspect-not-zero _ (z .before .if1 .taken) (sym (z .is-zero .ensures) ∙ c .if2 .left)
+returns c = inspect-closed _ (sym (c .before .is-zero .ensures) ∙ c .if1 .taken)
 
 in-shape-requires : tie.Need-in-shape-requires
 in-shape-requires c κs = search needs
 
-returns-3 : tie.Need-returns-3
-returns-3 c = let s = c .before in inspect-shapeless _ (not-zero (s .before)) (sym (s .in-shape .ensures) ∙ not-true _ (c .if3 .taken))
+returns-2 : tie.Need-returns-2
+returns-2 c = let s = c .before in inspect-shapeless _ (not-zero (s .before)) (sym (s .in-shape .ensures) ∙ not-true _ (c .if2 .taken))
 
 cast-load-of : tie.Need-cast-load-of
 cast-load-of c = search needs
 
 load-of-requires : tie.Need-load-of-requires
 load-of-requires c κs =
-    let e = c .before .before in
-    let s = shape-of _ (entries (begin e)) (places (begin e)) (shaped e) in
+    let b = begin (first c .before) in
+    let s = shape-of _ (entries b) (places b) (shaped c) in
     (s .few, s .job-ranges)
 
 enum-known-load : tie.Need-enum-known-load
@@ -68,38 +68,42 @@ enum-told-3 c = search needs
 enum-told-4 : tie.Need-enum-told-4
 enum-told-4 c = search needs
 
+returns-3 : tie.Need-returns-3
+returns-3 c =
+    let j = c .before .before in
+    let w = j .before .before in
+    let l = w .before .before in
+    let e = l .before in
+    let b = begin (first e .before) in
+    inspect-open _ (not-zero (first e)) (entries b) (places b) (shaped e) _ (sym (w .load .given .1) ∙ l .load-of .ensures) _ refl
+    (sym (j .judge .ensures) ∙ c .enum-told .given .1)
+
 returns-4 : tie.Need-returns-4
 returns-4 c =
     let j = c .before .before in
     let w = j .before .before in
     let l = w .before .before in
-    let e = l .before .before .before in
-    inspect-open _ (not-zero (e .before .before)) (entries (begin e)) (places (begin e)) (shaped e) _ (sym (w .load .given .1) ∙ l .load-of .ensures) _ refl
-    (sym (j .judge .ensures) ∙ c .enum-told .given .1)
+    let e = l .before in
+    let b = begin (first e .before) in
+    inspect-no-plan _ (not-zero (first e)) (entries b) (places b) (shaped e) _ (sym (w .load .given .1) ∙ l .load-of .ensures)
+    (sym (j .judge .ensures) ∙ c .enum-told2 .given .1)
 
 returns-5 : tie.Need-returns-5
 returns-5 c =
     let j = c .before .before in
     let w = j .before .before in
     let l = w .before .before in
-    let e = l .before .before .before in
-    inspect-no-plan _ (not-zero (e .before .before)) (entries (begin e)) (places (begin e)) (shaped e) _ (sym (w .load .given .1) ∙ l .load-of .ensures)
-    (sym (j .judge .ensures) ∙ c .enum-told2 .given .1)
+    let e = l .before in
+    let b = begin (first e .before) in
+    inspect-too-long _ (not-zero (first e)) (entries b) (places b) (shaped e) _ (sym (w .load .given .1) ∙ l .load-of .ensures)
+    (sym (j .judge .ensures) ∙ c .enum-told3 .given .1)
 
 returns-6 : tie.Need-returns-6
 returns-6 c =
-    let j = c .before .before in
-    let w = j .before .before in
-    let l = w .before .before in
-    let e = l .before .before .before in
-    inspect-too-long _ (not-zero (e .before .before)) (entries (begin e)) (places (begin e)) (shaped e) _ (sym (w .load .given .1) ∙ l .load-of .ensures)
-    (sym (j .judge .ensures) ∙ c .enum-told3 .given .1)
-
-returns-7 : tie.Need-returns-7
-returns-7 c =
     let l = c .before .before in
-    let e = l .before .before .before in
-    inspect-long-load _ (not-zero (e .before .before)) (entries (begin e)) (places (begin e)) (shaped e) _ (l .load-of .ensures)
+    let e = l .before in
+    let b = begin (first e .before) in
+    inspect-long-load _ (not-zero (first e)) (entries b) (places b) (shaped e) _ (l .load-of .ensures)
     (c .enum-told4 .given .1)
 
 pub inspect-spec : {M : Type 1} → statement M
@@ -108,9 +112,8 @@ inspect-spec =
     (tie.spec
     is-zero-requires
     returns
-    returns-2
     in-shape-requires
-    returns-3
+    returns-2
     cast-load-of
     load-of-requires
     enum-known-load
@@ -119,7 +122,7 @@ inspect-spec =
     enum-told-2
     enum-told-3
     enum-told-4
+    returns-3
     returns-4
     returns-5
-    returns-6
-    returns-7)
+    returns-6)

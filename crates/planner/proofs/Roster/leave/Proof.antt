@@ -6,7 +6,7 @@ use borrow.Author.Needs.{needs}
 use borrow.Author.Tests.{not-true, not-false}
 use lib.ListN.{length, take, length-map}
 use Rattle.places.specs.Places.{has}
-use Rattle.planner.specs.declared.Refusal.the-variants.{IdNotHeld}
+use Rattle.refusals.specs.declared.Refusal.the-variants.{IdNotHeld}
 use Rattle.planner.proofs.Replies.{refused-by, held-listed, leave-missing, leave-some, leave-out}
 use Rattle.planner.proofs.Roster.leave.Statement.{statement}
 use Rattle.planner.proofs.Roster.leave.Tie as tie

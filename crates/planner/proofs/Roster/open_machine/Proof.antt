@@ -6,11 +6,11 @@ use borrow.Author.Needs.{needs}
 use borrow.Author.Tests.{not-true, not-false}
 use lib.ListN.{length, length-map}
 use Rattle.gmf.specs.Machine.{InRange, machine}
-use Rattle.places.specs.Ranges.{oneTo}
-use Rattle.planner.specs.Tests.{speedsFit}
-use Rattle.planner.proofs.TestRules.{machine-range}
+use Rattle.ranges.specs.Ranges.{oneTo}
+use Rattle.ranges.specs.Ranges.{speedsFit}
+use Rattle.ranges.proofs.Rules.{machine-range}
 use Rattle.planner.proofs.Outcomes.{open-1, open-2, open-0}
-use Rattle.planner.specs.declared.Refusal.the-variants.{Damaged, MachineOpen, Processors, Speeds}
+use Rattle.refusals.specs.declared.Refusal.the-variants.{Damaged, MachineOpen, Processors, Speeds}
 use Rattle.planner.proofs.Replies.{refused-by, is-open, reply-damaged, reply-closed, reply-opened, open-12}
 use Rattle.planner.proofs.Roster.open_machine.Statement.{statement}
 use Rattle.planner.proofs.Roster.open_machine.Tie as tie

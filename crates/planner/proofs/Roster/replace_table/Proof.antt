@@ -6,7 +6,7 @@ use lib.ListN.{length, length-map}
 use Rattle.planner.specs.Claims.{IsSound}
 use Rattle.power_tables.proofs.Results.{table-laws}
 use Rattle.planner.proofs.Outcomes.{table-3, table-0}
-use Rattle.planner.specs.declared.Refusal.the-variants.{Damaged, NoMachine, PowerTable}
+use Rattle.refusals.specs.declared.Refusal.the-variants.{Damaged, NoMachine, PowerTable}
 use Rattle.planner.proofs.Replies.{refused-by, is-open, reply-damaged, reply-open, reply-table, table-11}
 use Rattle.planner.proofs.Roster.replace_table.Statement.{statement}
 use Rattle.planner.proofs.Roster.replace_table.Tie as tie

@@ -5,11 +5,11 @@ use mathlib.Core.Bool.{true}
 use borrow.Author.Needs.{needs}
 use borrow.Author.Tests.{not-true, not-false}
 use lib.ListN.{length, length-map}
-use Rattle.places.specs.Ranges.{oneTo}
+use Rattle.ranges.specs.Ranges.{oneTo}
 use Rattle.planner.specs.Claims.{IsSound}
-use Rattle.places.proofs.Results.{placing}
+use Rattle.ranges.proofs.Results.{ranging}
 use Rattle.planner.proofs.Outcomes.{retire-4, retire-in}
-use Rattle.planner.specs.declared.Refusal.the-variants.{Damaged, JobNumbers, NoMachine}
+use Rattle.refusals.specs.declared.Refusal.the-variants.{Damaged, JobNumbers, NoMachine}
 use Rattle.planner.proofs.Replies.{refused-by, is-open, reply-damaged, reply-open, retire-11, entered}
 use Rattle.planner.proofs.Roster.retire.Statement.{statement}
 use Rattle.planner.proofs.Roster.retire.Tie as tie
@@ -61,7 +61,7 @@ returns c =
     (reply-open _ (entries s) (places s) (open-at o) _ _ (retire-4 _ _ _ _ (sym (f .one-to .ensures) ∙ not-true _ (c .before .if1 .taken))))
 
 cast-leave : tie.Need-cast-leave
-cast-leave c = omega (arith, placing .tests .number 65535 _ .0 (ranged c))
+cast-leave c = omega (arith, ranging .rule .number 65535 _ .0 (ranged c))
 
 leave-requires : tie.Need-leave-requires
 leave-requires c κs = open-at (c .before .before)

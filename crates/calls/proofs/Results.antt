@@ -1,0 +1,6 @@
+-- The claims of lines and of lists of calls, proved.
+use Rattle.calls.specs.Claims.{Calling}
+use Rattle.calls.proofs.Demand.{ask-rule, demand-3}
+
+pub calling : Calling
+calling = record { ask-rule = ask-rule; demand-3 = demand-3 }

@@ -1,0 +1,83 @@
+-- What is proved of lines and of lists of calls: `Calling` is all of it. Its proof is proofs/Results.antt.
+use Prim.Native.Nat.{ℕ, _+_, _≤_}
+use mathlib.Core.Path.{_≡_}
+use mathlib.Core.Bool.{true}
+use mathlib.Core.List.{List, [], _∷_, _++_}
+use lib.ListN.{length, take, drop}
+use Rattle.gmf.specs.declared.Machine.{Machine}
+use Rattle.gmf.specs.declared.Job.{Job}
+use Rattle.frame_kinds.specs.Frames.{says, refused}
+use Rattle.frame_reader.specs.Frames.{saidBy}
+use Rattle.planner.specs.declared.Roster.{Roster}
+use Rattle.planner.specs.Model.{Closed, Opened, OpenMachine, ReplaceTable, Admit, Retire}
+use Rattle.planner.specs.Roster.{emptyRoster, modelOf, rosterOf, wellFormed}
+use Rattle.planner.specs.Claims.{Kept, Offered, TurnedDown}
+use Rattle.filing.specs.Plans.{planLine}
+use Rattle.filing.specs.Claims.{frameLength, FiledPlan}
+use Rattle.calls.specs.Lines.{malformed, change, plan, asked}
+use Rattle.calls.specs.Calls.{Call, Change, Plan, Line, onModel, onRoster, replies, end}
+
+-- ---- Lines
+
+-- What a line asks for, by the kind and the numbers that it says: the call with those numbers.
+pub record AskRule (line : List ℕ) : Type 0 where
+  pub unread : saidBy line ≡ refused 5 → asked line ≡ malformed
+  pub machine : (m L b d : ℕ) → saidBy line ≡ says 1 (m ∷ L ∷ b ∷ d ∷ []) → asked line ≡ change (OpenMachine m L b d)
+  pub power : (values : List ℕ) → saidBy line ≡ says 2 values → asked line ≡ change (ReplaceTable values)
+  pub admit : (id cost period : ℕ) → saidBy line ≡ says 3 (id ∷ cost ∷ period ∷ []) → asked line ≡ change (Admit id cost period)
+  pub retire : (id : ℕ) → saidBy line ≡ says 4 (id ∷ []) → asked line ≡ change (Retire id)
+  pub plan-wanted : saidBy line ≡ says 5 [] → asked line ≡ plan
+
+-- ---- Demand 3
+
+-- The calls that want a plan on a page from a place: the call with numbers, and every line that reads as it.
+pub data WantsPlan : Call → List ℕ → ℕ → Type 0 where
+  with-numbers : (page : List ℕ) (place : ℕ) → WantsPlan (Plan page place) page place
+  as-line : (line page : List ℕ) (place : ℕ) → saidBy line ≡ says 5 [] → WantsPlan (Line line page place) page place
+
+-- The calls that offer a job: the call with numbers, and every line that reads as it.
+pub data Offers : Call → Job → Type 0 where
+  with-numbers : (new : Job) → Offers (Change (Admit (new .id) (new .cost) (new .period))) new
+  as-line : (line page : List ℕ) (place : ℕ) (new : Job) → saidBy line ≡ says 3 (new .id ∷ new .cost ∷ new .period ∷ [])
+      → Offers (Line line page place) new
+
+-- "The plan filed next is what a plan call straight after the list writes where its page has room." `FiledPlan` says of the levels and raises that
+-- they are growing's, pass every capacity test, and that "no plan from the same speeds that passes them draws less total power, under any power
+-- table that never falls and whose rises never shrink".
+pub record FiledNext (r : Roster) (M : Machine) (table : List ℕ) (jobs : List Job) : Type 0 where
+  pub levels : List ℕ
+  pub raises : ℕ
+  pub plan : FiledPlan M table jobs levels raises
+  pub written : (call : Call) (page : List ℕ) (place : ℕ) → WantsPlan call page place → place + frameLength (M .processors) ≤ length page
+      → onRoster r call
+      ≡ record {
+        number = 0;
+        page = take place page ++ (planLine table jobs levels raises ++ drop (place + frameLength (M .processors)) page);
+        next = r;
+      }
+  pub no-room : (call : Call) (page : List ℕ) (place : ℕ) → WantsPlan call page place → (place + frameLength (M .processors) ≤ length page → ⊥)
+      → onRoster r call ≡ record { number = 6; page = page; next = r }
+
+-- "For every list of machine, power, admit, retire and plan calls from the empty roster, refused ones included", made with numbers or as lines.
+pub record Demand3 (calls : List Call) : Type 0 where
+  -- "… the replies and the roster after it are those of document 01's book of the same calls": each number and every byte of each lent page, and
+  -- the roster at the end.
+  pub same-replies : replies onRoster emptyRoster calls ≡ replies onModel Closed calls
+  pub same-roster : end onRoster emptyRoster calls ≡ rosterOf (end onModel Closed calls)
+  -- "The roster carries exactly the book's machine, table and jobs", keeps 01's rules, and never meets 7.
+  pub carries : modelOf (end onRoster emptyRoster calls) ≡ end onModel Closed calls
+  pub kept : Kept (end onModel Closed calls)
+  pub well-formed : wellFormed (end onRoster emptyRoster calls) ≡ true
+  pub never-7 : (call : Call) → onRoster (end onRoster emptyRoster calls) call .number ≡ 7 → ⊥
+  -- "After every such list, on an open machine, the plan filed next …"
+  pub filed-next : (M : Machine) (table : List ℕ) (jobs : List Job) → end onModel Closed calls ≡ Opened M table jobs
+      → FiledNext (end onRoster emptyRoster calls) M table jobs
+  -- "After every such list, on an open machine, a job in range, under a new id, with a place free and the cycle within its limit …"
+  pub turned-down : (M : Machine) (table : List ℕ) (jobs : List Job) → end onModel Closed calls ≡ Opened M table jobs
+      → (new : Job) → Offered jobs new → (call : Call) → Offers call new → TurnedDown (onRoster (end onRoster emptyRoster calls) call .number) M jobs new
+
+-- ---- All of it
+
+pub record Calling : Type 0 where
+  pub ask-rule : (line : List ℕ) → AskRule line
+  pub demand-3 : (calls : List Call) → Demand3 calls

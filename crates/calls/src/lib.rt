@@ -1,0 +1,143 @@
+// Calls made as lines. The definitions are in specs/.
+ghost use mathlib.Core.Path.{_≡_};
+ghost use mathlib.Core.List.{List, []};
+ghost use Prim.Native.Nat.{ℕ, _≤_};
+ghost use Rattle.frame_kinds.specs.declared.Frame.the-variants.{Power};
+ghost use Rattle.refusals.specs.Numbers.{refusalNumber};
+ghost use Rattle.calls.specs.Lines.{askedBy, asked, wantsPlan, answeredOn, malformedNumber, replyAs, lineReply, passedOver};
+use filing::file_plan;
+use frame_kinds::Frame;
+use frame_reader::read_line;
+use planner::Condition;
+use planner::Reply;
+use planner::Roster;
+use refusals::Answer;
+use refusals::Refusal;
+
+// The answer to a call made as a line, the roster that comes back, and how many bytes of the page were written.
+pub struct LineAnswer {
+    pub answer: Answer,
+    pub roster: Roster,
+    pub count: usize,
+}
+
+// Why a malformed line is refused: a roster that breaks a rule is refused first.
+fn malformed(roster: Roster) -> Refusal
+    ensures { λ r. ⌜ refusalNumber r ≡ malformedNumber roster ⌝ }
+{
+    let condition = roster.inspect();
+    match condition {
+        Condition::Damaged => Refusal::Damaged,
+        Condition::Closed => Refusal::Malformed,
+        Condition::Open(_) => Refusal::Malformed,
+    }
+}
+
+// The reply of a call that has no page.
+fn changed(reply: Reply) -> LineAnswer
+    ensures { λ r. ⌜ r ≡ record { answer = reply .answer; roster = reply .roster; count = 0 } ⌝ }
+{
+    let answer = reply.answer;
+    let roster = reply.roster;
+    LineAnswer {
+        answer,
+        roster,
+        count: 0,
+    }
+}
+
+// Makes the call that a frame stands for.
+fn call_frame(
+    roster: Roster,
+    frame: Frame,
+    numbers: [u32; 32],
+    page: &mut [u8],
+    place: usize,
+) -> LineAnswer
+    requires { ⌜ ((count : ℕ) → frame ≡ Power count → count ≤ 32) ⌝ }
+    ensures { λ r. ⌜ answeredOn r (now (page .exit)) ≡ replyAs roster (askedBy frame numbers) (now (page .entry)) place ⌝ }
+{
+    match frame {
+        Frame::Malformed => LineAnswer {
+            answer: Answer::Refused(malformed(roster)),
+            roster,
+            count: 0,
+        },
+        Frame::Machine {
+            processors,
+            levels,
+            lowest,
+            step,
+        } => changed(roster.open_machine(
+            processors as u64,
+            levels as u64,
+            lowest as u64,
+            step as u64,
+        )),
+        Frame::Power { count } => changed(roster.replace_table(&numbers[..count])),
+        Frame::Admit { id, cost, period } => {
+            changed(roster.admit(id as u64, cost as u64, period as u64))
+        }
+        Frame::Retire { id } => changed(roster.retire(id as u64)),
+        Frame::PlanWanted => {
+            let filing = file_plan(roster, page, place);
+            let answer = filing.answer;
+            LineAnswer {
+                answer,
+                roster,
+                count: filing.count,
+            }
+        }
+    }
+}
+
+// Makes the call that a line stands for, on a roster and a lent page.
+pub fn call_line(roster: Roster, line: &[u8], page: &mut [u8], place: usize) -> LineAnswer
+    ensures { λ r. ⌜ answeredOn r (now (page .exit)) ≡ lineReply roster (now (line .entry)) (now (page .entry)) place ⌝ }
+{
+    let reading = read_line(line);
+    let frame = reading.frame;
+    let values = reading.values;
+    call_frame(roster, frame, values, page, place)
+}
+
+// Whether a frame wants a plan.
+fn wants_plan(frame: Frame) -> bool
+    ensures { λ r. ⌜ ((values : List ℕ) → r ≡ wantsPlan (askedBy frame values)) ⌝ }
+{
+    match frame {
+        Frame::PlanWanted => true,
+        Frame::Malformed => false,
+        Frame::Machine {
+            processors: _,
+            levels: _,
+            lowest: _,
+            step: _,
+        } => false,
+        Frame::Power { count: _ } => false,
+        Frame::Admit {
+            id: _,
+            cost: _,
+            period: _,
+        } => false,
+        Frame::Retire { id: _ } => false,
+    }
+}
+
+// A line of the host's sheet: a wanted plan is passed over, and any other line is a call that is lent no page.
+pub fn host_line(roster: Roster, line: &[u8]) -> LineAnswer
+    ensures { λ r. ⌜ answeredOn r [] ≡ passedOver roster (asked (now (line .entry))) ⌝ }
+{
+    let reading = read_line(line);
+    let frame = reading.frame;
+    if wants_plan(frame) {
+        return LineAnswer {
+            answer: Answer::Accepted,
+            roster,
+            count: 0,
+        };
+    }
+    let values = reading.values;
+    let mut none = [0u8; 0];
+    call_frame(roster, frame, values, &mut none, 0)
+}

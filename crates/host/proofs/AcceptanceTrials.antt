@@ -1,0 +1,127 @@
+-- 01's sheet and some others, for the host. What the calls do is the planner's to say (`ExampleCalls`); the rest is computed.
+use Prim.Native.Nat.{ℕ, suc, _≤_}
+use native.Mathlib.Omega.{arith}
+use mathlib.Core.Path.{_≡_, refl, sym, ap, _∙_}
+use mathlib.Core.List.{List, [], _∷_, _++_}
+use lib.ListN.{length, take, drop, replicate}
+use Rattle.hexadecimal.specs.Text.{digitOf, digitsOf, lineOf, valueOf, byteBefore, endOf, textOf}
+use Rattle.frame_kinds.specs.Frames.{kindOf, rightLength, widthsIn, numberAt, numbersFrom, saidAs, saidWith, besideOf, readingOf}
+use Rattle.frame_reader.specs.Lines.{joined, linesOf}
+use Rattle.frame_reader.specs.Frames.{saidIn, saidBy}
+use Rattle.frame_reader.specs.Claims.{exampleSheet}
+use Rattle.planner.specs.Model.{Model, Closed}
+use Rattle.planner.specs.Model as planner
+use Rattle.planner.specs.Claims.{Does, exampleModel}
+use Rattle.refusals.proofs.Results.{number-rule}
+use Rattle.planner.proofs.Results.{planner as laws}
+use Rattle.filing.specs.Plans.{Filed, filed}
+use Rattle.filing.proofs.Results.{files}
+use Rattle.calls.specs.Lines.{Asked, malformed, change, plan, askedBy, asked, wantsPlan}
+use Rattle.calls.specs.Calls.{Call, changed, planned, readAs, onModel, replies, end}
+use Rattle.host.specs.Host.{lineOnModel, callsFrom, hostCalls, lastNumber, refusedFrom, refusedLine, hostReply}
+use Rattle.host.specs.Claims.{SheetTrials}
+use Rattle.host.proofs.Walking.{Walked, walked, walked-pass, walked-next, walked-stop}
+use Rattle.host.proofs.Hosting.{host-rule}
+
+-- ---- A line of the host's
+
+module _ (model : Model) (number : ℕ) (line : List ℕ) (lines : List (List ℕ)) where
+  host-number : (ask : Asked) → asked line ≡ ask → lineOnModel model line .number ≡ readAs model ask [] 0 .number
+  unfolding lineOnModel onModel
+  host-number ask a = ap (λ (q : Asked). readAs model q [] 0 .number) a
+
+  host-next : (ask : Asked) → asked line ≡ ask → lineOnModel model line .next ≡ readAs model ask [] 0 .next
+  unfolding lineOnModel onModel
+  host-next ask a = ap (λ (q : Asked). readAs model q [] 0 .next) a
+
+  goes-on : (call : planner.Call) (next : Model) → asked line ≡ change call → Does model call 0 next → walked model number (line ∷ lines) ≡ walked next (suc number) lines
+  unfolding readAs changed wantsPlan
+  goes-on call next a does =
+      walked-next model number line lines (ap wantsPlan a) (host-number (change call) a ∙ does .0)
+      ∙ ap (λ (m : Model). walked m (suc number) lines) (host-next (change call) a ∙ does .1)
+
+  ends-by : (call : planner.Call) (n : ℕ) (next : Model) → asked line ≡ change call → Does model call n next → (n ≡ 0 → ⊥)
+      → walked model number (line ∷ lines) ≡ record { number = n; line = number; model = next }
+  unfolding readAs changed wantsPlan
+  ends-by call n next a does some =
+      let is = host-number (change call) a ∙ does .0 in
+      walked-stop model number line lines (ap wantsPlan a) (λ z. some (sym is ∙ z))
+      ∙ ap (λ (k : ℕ). record { number = k; line = number; model = lineOnModel model line .next }) is
+      ∙ ap (λ (m : Model). record { number = n; line = number; model = m }) (host-next (change call) a ∙ does .1)
+
+  ends-unread : asked line ≡ malformed → walked model number (line ∷ lines) ≡ record { number = 5; line = number; model = model }
+  unfolding readAs wantsPlan
+  ends-unread a =
+      let is = host-number malformed a ∙ number-rule .malformed in
+      walked-stop model number line lines (ap wantsPlan a) (λ z. omega (arith, is))
+      ∙ ap (λ (k : ℕ). record { number = k; line = number; model = lineOnModel model line .next }) is
+      ∙ ap (λ (m : Model). record { number = 5; line = number; model = m }) (host-next malformed a)
+
+ended : (model : Model) (number : ℕ) → walked model number [] ≡ record { number = 0; line = 0; model = model }
+unfolding walked callsFrom refusedFrom replies end lastNumber
+ended model number = refl
+
+-- Six lines of 01's sheet, and the lines after them.
+six-lines : (lines : List (List ℕ)) → walked Closed 1 (take 6 (linesOf exampleSheet) ++ lines) ≡ walked (exampleModel 5) 7 lines
+unfolding exampleSheet joined linesOf valueOf byteBefore endOf textOf kindOf rightLength widthsIn numberAt numbersFrom saidAs saidWith saidIn saidBy besideOf readingOf askedBy asked
+six-lines lines =
+    let e = laws .example-calls in
+    goes-on _ _ _ _ _ _ refl (e .opens)
+    ∙ goes-on _ _ _ _ _ _ refl (e .admits-1)
+    ∙ goes-on _ _ _ _ _ _ refl (e .admits-2)
+    ∙ goes-on _ _ _ _ _ _ refl (e .admits-3)
+    ∙ goes-on _ _ _ _ _ _ refl (e .admits-4)
+    ∙ goes-on _ _ _ _ _ _ refl (e .admits-5)
+
+example-walked : walked Closed 1 (linesOf exampleSheet) ≡ record { number = 17; line = 7; model = exampleModel 5 }
+unfolding exampleSheet joined linesOf valueOf byteBefore endOf textOf kindOf rightLength widthsIn numberAt numbersFrom saidAs saidWith saidIn saidBy besideOf readingOf askedBy asked
+example-walked = six-lines (drop 6 (linesOf exampleSheet)) ∙ ends-by _ _ _ _ _ _ _ refl (laws .example-calls .refuses-6) (λ z. omega arith)
+
+part-walked : walked Closed 1 (linesOf (take 90 exampleSheet)) ≡ record { number = 0; line = 0; model = exampleModel 5 }
+unfolding exampleSheet joined linesOf valueOf byteBefore endOf textOf kindOf rightLength widthsIn numberAt numbersFrom saidAs saidWith saidIn saidBy besideOf readingOf askedBy asked
+part-walked = six-lines [] ∙ ended (exampleModel 5) 7
+
+-- How a sheet of allowed length is answered, by how its lines end.
+module _ (sheet : List ℕ) (short : length sheet ≤ 65536) (w : Walked) (e : walked Closed 1 (linesOf sheet) ≡ w) where
+  host-refuses : (w .number ≡ 0 → ⊥) → (page : List ℕ) (place : ℕ) → hostReply sheet page place ≡ record { number = w .number; page = page }
+  unfolding walked hostCalls
+  host-refuses some page place =
+      let is = ap (λ (v : Walked). v .number) e in
+      host-rule sheet .refuses short (λ z. some (sym is ∙ z)) page place ∙ ap (λ (n : ℕ). record { number = n; page = page }) is
+
+  host-plans : w .number ≡ 0 → (page : List ℕ) (place : ℕ) (f : Filed) → filed (w .model) page place ≡ f
+      → hostReply sheet page place ≡ record { number = f .number; page = f .page }
+  unfolding walked hostCalls onModel planned
+  host-plans z page place f g =
+      host-rule sheet .plans short (ap (λ (v : Walked). v .number) e ∙ z) page place
+      ∙ ap (λ (v : Walked). record { number = filed (v .model) page place .number; page = filed (v .model) page place .page }) e
+      ∙ ap (λ (q : Filed). record { number = q .number; page = q .page }) g
+
+-- ---- All of it
+
+plan-passed : walked Closed 1 (linesOf (48 ∷ 53 ∷ 10 ∷ [])) ≡ record { number = 0; line = 0; model = Closed }
+unfolding joined linesOf valueOf byteBefore endOf textOf kindOf rightLength widthsIn numberAt numbersFrom saidAs saidWith saidIn saidBy besideOf readingOf askedBy asked wantsPlan
+plan-passed = walked-pass Closed 1 (48 ∷ 53 ∷ 10 ∷ []) [] refl ∙ ended Closed 2
+
+counted-walked : walked Closed 1 (linesOf (48 ∷ 53 ∷ 10 ∷ 10 ∷ [])) ≡ record { number = 5; line = 2; model = Closed }
+unfolding joined linesOf valueOf byteBefore endOf textOf kindOf rightLength widthsIn numberAt numbersFrom saidAs saidWith saidIn saidBy besideOf readingOf askedBy asked wantsPlan
+counted-walked = walked-pass Closed 1 (48 ∷ 53 ∷ 10 ∷ []) ((10 ∷ []) ∷ []) refl ∙ ends-unread Closed 2 (10 ∷ []) [] refl
+
+counted-line : refusedLine (48 ∷ 53 ∷ 10 ∷ 10 ∷ []) ≡ 2
+unfolding refusedLine walked
+counted-line = ap (λ (v : Walked). v .line) counted-walked
+
+example-line : refusedLine exampleSheet ≡ 7
+unfolding refusedLine exampleSheet walked
+example-line = ap (λ (v : Walked). v .line) example-walked
+
+pub sheet-trials : SheetTrials
+unfolding exampleSheet joined linesOf valueOf byteBefore endOf textOf kindOf rightLength widthsIn numberAt numbersFrom saidAs saidWith saidIn saidBy besideOf readingOf askedBy asked digitOf digitsOf lineOf
+sheet-trials = record {
+  no-machine = host-plans (48 ∷ 53 ∷ 10 ∷ []) (omega arith) _ plan-passed refl [] 1 _ (files .files-closed [] 1);
+  unclosed = host-refuses (48 ∷ 53 ∷ []) (omega arith) _ (ends-unread Closed 1 (48 ∷ 53 ∷ []) [] refl) (λ z. omega arith) [] 1;
+  plan = host-plans (take 90 exampleSheet) (omega arith) _ part-walked refl (replicate 40 0) 3 _ (files .trials .sheet);
+  refused = host-refuses exampleSheet (omega arith) _ example-walked (λ z. omega arith) (1 ∷ 2 ∷ []) 0;
+  line = example-line;
+  line-counted = counted-line;
+}

@@ -1,0 +1,7 @@
+-- The claims of the host's sheets, proved.
+use Rattle.host.specs.Claims.{Hosting}
+use Rattle.host.proofs.AcceptanceTrials.{sheet-trials}
+use Rattle.host.proofs.Hosting.{host-rule}
+
+pub hosting : Hosting
+hosting = record { host-rule = host-rule; sheet-trials = sheet-trials }

@@ -1,0 +1,97 @@
+//! The facts that a full run must have met, each one a check.
+
+use crate::brute::Met;
+use crate::compare::{Relation, WITHOUT_ROOM, WITH_ROOM};
+use crate::facts::{Due, Facts, LENGTHS, MARKS};
+use crate::planner::refusal::OF_A_LINE;
+use crate::sheets::Side;
+use crate::tally::Tally;
+
+fn least(counts: &[u64]) -> u64 {
+    counts.iter().min().copied().unwrap_or(0)
+}
+
+/// A table of names and counts; an empty count fails.
+pub struct Table {
+    rows: Vec<(String, u64)>,
+}
+
+impl Table {
+    pub fn new() -> Self {
+        Table { rows: Vec::new() }
+    }
+
+    fn add(&mut self, name: String, count: u64) {
+        self.rows.push((name, count));
+    }
+
+    pub fn of_side(&mut self, side: Side, facts: &Facts) {
+        let name = if side == Side::Host { "host" } else { "desk" };
+        for number in OF_A_LINE {
+            self.add(format!("{name}: refusal {number}"), facts.refusals[usize::from(number)]);
+        }
+        for &(mark, due, text) in MARKS {
+            let here = match due {
+                Due::Both => true,
+                Due::Host => side == Side::Host,
+                Due::Desk => side == Side::Desk,
+            };
+            if here {
+                self.add(format!("{name}: {text}"), facts.count(mark));
+            }
+        }
+        if side == Side::Desk {
+            for number in OF_A_LINE {
+                self.add(format!("desk: plan after refusal {number}"), facts.plans_after[usize::from(number)]);
+            }
+        } else {
+            self.add("host: least met exactly of k = 1 to 31".into(), least(&facts.met_at[1..32]));
+            self.add("host: least missed by one of k = 1 to 31".into(), least(&facts.missed_at[1..32]));
+        }
+        self.wrong_bytes(name, facts);
+        let kinds = || (0..=255usize).filter(|kind| !(1..=5).contains(kind));
+        let met: Vec<u64> = kinds().map(|kind| facts.unknown_kinds[kind]).collect();
+        self.add(format!("{name}: least met of the {} unknown kinds", met.len()), least(&met));
+        for (kind, longest) in [(1, 12), (2, LENGTHS - 1), (3, 12), (4, 12), (5, 12)] {
+            let met = least(&facts.lengths[kind][..=longest]);
+            self.add(format!("{name}: least met of the lengths 0 to {longest} of kind {kind:02}"), met);
+        }
+    }
+
+    fn wrong_bytes(&mut self, name: &str, facts: &Facts) {
+        for byte in [b'/', b':', b'@', b'G', b'`', b'g', b'\r', 0] {
+            let met = facts.wrong_digits[0][usize::from(byte)].min(facts.wrong_digits[1][usize::from(byte)]);
+            self.add(format!("{name}: wrong digit {byte:02X} as first and second of a byte"), met);
+        }
+        let wrong = |byte: &u8| !byte.is_ascii_hexdigit() && *byte != b'\n';
+        let all: Vec<u8> = (0..=255).filter(wrong).collect();
+        let met = |byte: &u8| facts.wrong_digits[0][usize::from(*byte)] + facts.wrong_digits[1][usize::from(*byte)];
+        let met: Vec<u64> = all.iter().map(met).collect();
+        self.add(format!("{name}: least met of all {} wrong digits", met.len()), least(&met));
+    }
+
+    pub fn of_pages(&mut self, facts: &Facts) {
+        let relations: Vec<Relation> = WITH_ROOM.iter().chain(&WITHOUT_ROOM).copied().collect();
+        for relation in relations {
+            self.add(format!("host: page {relation:?}"), facts.relations[relation as usize]);
+        }
+    }
+
+    pub fn of_brute_force(&mut self, met: &Met) {
+        self.add("brute: jobs with a plan".into(), met.accepted);
+        self.add("brute: no job".into(), met.no_job);
+        self.add("brute: jobs without a plan".into(), met.refused);
+        self.add("brute: several plans pass".into(), met.several_plans);
+        self.add("brute: a cheaper plan fails".into(), met.cheaper_fails);
+        self.add("brute: a plan below the top".into(), met.below_top);
+    }
+
+    /// Prints the table and counts each row.
+    pub fn close(&self, tally: &mut Tally) {
+        println!("-- met in this run");
+        for (name, count) in &self.rows {
+            println!("{count:>9}  {name}");
+            tally.check(&format!("never met: {name}"), *count > 0);
+        }
+    }
+}

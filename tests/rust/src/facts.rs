@@ -1,0 +1,133 @@
+//! What the sheets of a run really met, counted by the second planner while it reads them. The run fails where a fact never
+//! occurred.
+
+/// Where a fact has to occur.
+#[derive(Clone, Copy, PartialEq, Eq)]
+pub enum Due {
+    Both,
+    Host,
+    Desk,
+}
+
+macro_rules! marks {
+    ($($mark:ident $due:ident $text:literal,)*) => {
+        #[derive(Clone, Copy)]
+        pub enum Mark { $($mark),* }
+        pub const MARKS: &[(Mark, Due, &str)] = &[$((Mark::$mark, Due::$due, $text)),*];
+    };
+}
+
+marks! {
+    Held64 Both "a plan for 64 jobs",
+    Readmitted Both "an id retired and admitted again",
+    PlaceReused Both "a place of a full roster used again",
+    MetExactly Both "test k below m met exactly by the last raise",
+    MetExactlyWhole Both "whole test met exactly by the last raise",
+    MissedByOne Both "test k below m missed by one",
+    MissedByOneWhole Both "whole test missed by one",
+    SpareOne Both "test k below m met with one to spare",
+    SpareOneWhole Both "whole test met with one to spare",
+    FullLoad Both "all works equal to m x H",
+    FullLoadMissed Both "17 with all works m x H + 1",
+    HeaviestMissed Both "17 with a cost one above its period",
+    EqualWorks Both "equal works from different costs",
+    OneProcessor Both "a plan with m = 1",
+    MostProcessors Both "a plan with m = 32",
+    OneLevel Both "a plan with L = 1",
+    MostLevels Both "a plan with L = 32",
+    LowestOne Both "a machine with b = 1",
+    LowestMost Both "a machine with b = 256",
+    StepOne Both "a machine with d = 1",
+    StepMost Both "a machine with d = 255",
+    TopMost Both "a machine with Q = 256",
+    TopBeyond Both "2 with Q = 257",
+    StepBeyondOneLevel Both "2 with d out of range and L = 1",
+    LongestCycle Both "a plan with H = 16,777,215",
+    CycleBeyond Both "16 with H = 16,777,217",
+    NoJobs Both "a plan for no jobs",
+    NoRaises Both "a plan with 0 raises for some jobs",
+    MostRaises Both "a plan with 992 raises",
+    ValueMost Both "a table with a value 16,777,216",
+    ValueBeyond Both "3 with a value 16,777,217",
+    TableShort Both "3 with a value too few",
+    TableLong Both "3 with a value too many",
+    EqualRises Both "a table with equal rises",
+    RiseShort Both "3 with a rise smaller by one",
+    FallByOne Both "3 with a fall by one",
+    TableFlat Both "a table of equal values above 0",
+    TableZero Both "a table of zeros",
+    TableReplaced Both "a table replaced by a second one",
+    LowerCase Both "an accepted line in lower case",
+    LineEmpty Both "5 with an empty line",
+    LineUnclosed Both "5 with an unclosed line",
+    LineOdd Both "5 with an odd number of digits",
+    OpenBeforeRange Both "12 where 1 or 2 holds too",
+    MachineBeforeRange Both "11 where 4 holds too",
+    HeldBeforeFull Both "13 where 15 holds too",
+    FullBeforeCycle Both "15 where 16 holds too",
+    CycleBeforeHeavy Both "16 where C exceeds T",
+    ProcessorsBeforeSpeeds Both "1 where 2 holds too",
+    Empty Both "a sheet of 0 bytes",
+    Length65535 Both "a sheet of 65,535 bytes",
+    Length65536 Both "a sheet of 65,536 bytes",
+    Length65537 Both "a sheet of 65,537 bytes",
+    Longest Both "an undamaged sheet of 65,536 bytes",
+    LateLine Both "a refused line above 255",
+    LatestLine Desk "a refused line above 65,535",
+    PlanPassedOver Host "05 passed over with no machine open",
+    NoMachineAtEnd Host "11 with no refused line",
+    NoRoom Host "6 for want of room",
+    Filed Host "a plan frame filed",
+    PlanAfterRefusals Desk "a sheet with a plan after three refused lines",
+}
+
+/// One more than the longest kind 02 that is tried, in bytes after the kind.
+pub const LENGTHS: usize = 141;
+
+/// The relations of a page and a place to a frame.
+pub const RELATIONS: usize = 11;
+
+#[derive(Clone)]
+pub struct Facts {
+    pub refusals: [u64; 18],
+    /// Desk sheets with a plan after a line refused by the number.
+    pub plans_after: [u64; 18],
+    /// Tests k below m met exactly by the last raise, and missed by one, at k.
+    pub met_at: [u64; 33],
+    pub missed_at: [u64; 33],
+    pub wrong_digits: [[u64; 256]; 2],
+    pub unknown_kinds: [u64; 256],
+    pub lengths: [[u64; LENGTHS]; 6],
+    pub relations: [u64; RELATIONS],
+    pub marks: [u64; MARKS.len()],
+}
+
+impl Facts {
+    pub fn new() -> Self {
+        Facts {
+            refusals: [0; 18],
+            plans_after: [0; 18],
+            met_at: [0; 33],
+            missed_at: [0; 33],
+            wrong_digits: [[0; 256]; 2],
+            unknown_kinds: [0; 256],
+            lengths: [[0; LENGTHS]; 6],
+            relations: [0; RELATIONS],
+            marks: [0; MARKS.len()],
+        }
+    }
+
+    pub fn mark(&mut self, mark: Mark) {
+        self.marks[mark as usize] += 1;
+    }
+
+    pub fn mark_if(&mut self, holds: bool, mark: Mark) {
+        if holds {
+            self.mark(mark);
+        }
+    }
+
+    pub fn count(&self, mark: Mark) -> u64 {
+        self.marks[mark as usize]
+    }
+}

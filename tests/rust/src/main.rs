@@ -1,0 +1,196 @@
+//! A second planner, written from document 01 alone, compared with the product on random sheets.
+//!
+//! `second_planner [seed]`: without a seed all fixed seeds are run, and every fact of the coverage table must have been met. The
+//! environment names the desk program in STUDIO_DESK. The last line is 'N passed, M failed'.
+
+#![deny(unsafe_code)]
+
+#[allow(unsafe_code)]
+mod archive;
+#[forbid(unsafe_code)]
+mod brute;
+#[forbid(unsafe_code)]
+mod compare;
+#[forbid(unsafe_code)]
+mod coverage;
+#[forbid(unsafe_code)]
+mod facts;
+#[forbid(unsafe_code)]
+mod planner;
+#[forbid(unsafe_code)]
+mod random;
+#[forbid(unsafe_code)]
+mod sheets;
+#[forbid(unsafe_code)]
+mod shrink;
+#[forbid(unsafe_code)]
+mod sweep;
+#[forbid(unsafe_code)]
+mod tally;
+#[forbid(unsafe_code)]
+mod trials;
+
+use facts::{Due, Facts, Mark};
+use planner::astray::{Astray, ALL};
+use random::Random;
+use sheets::{Side, FAMILIES};
+use std::path::{Path, PathBuf};
+use std::process::ExitCode;
+use std::time::Instant;
+use tally::Tally;
+
+/// The fixed seeds. Each one takes its share of every family.
+const SEEDS: [u64; 4] = [0x5EED_0001, 0x5EED_0002, 0x5EED_0003, 0x5EED_0004];
+const BRUTE_CASES: usize = 40_000;
+const REFUSAL_CALLS: usize = 20_000;
+const LEAST_AT_HOST: usize = 100_000;
+const LEAST_AT_DESK: usize = 10_000;
+
+/// In bytes: four lines of a job.
+const SMALL_SHEET: usize = 60;
+
+/// Wrong planners that the brute force must find without a second planner to compare with.
+const FOUND_BY_BRUTE_FORCE: [Astray; 12] = [
+    Astray::OrderByCost,
+    Astray::RoundedUp,
+    Astray::BeyondLeftOut,
+    Astray::MeanSpeed,
+    Astray::HighestOfEquals,
+    Astray::EqualityFails,
+    Astray::RaisesOffByOne,
+    Astray::OneRaiseMore,
+    Astray::LastTestOnly,
+    Astray::EveryCoreAtTop,
+    Astray::FirstPlanRepeated,
+    Astray::LowestPowerLeftOut,
+];
+
+fn main() -> ExitCode {
+    let program = PathBuf::from(std::env::var_os("STUDIO_DESK").unwrap_or_default());
+    let mut tally = Tally::new();
+    match seeds_to_run() {
+        Ok((seeds, full)) => run(&program, &seeds, full, &mut tally),
+        Err(fault) => tally.check(&fault, false),
+    }
+    println!("{} passed, {} failed", tally.passed, tally.failed);
+    ExitCode::from(u8::from(tally.failed > 0))
+}
+
+/// The seeds with their order, and whether the run is a full one.
+fn seeds_to_run() -> Result<(Vec<(usize, u64)>, bool), String> {
+    let all = || SEEDS.iter().copied().enumerate();
+    let Some(given) = std::env::args().nth(1) else {
+        return Ok((all().collect(), true));
+    };
+    let digits = given.trim_start_matches("0x");
+    let seed = u64::from_str_radix(digits, 16).map_err(|_| format!("no hexadecimal seed: {given}"))?;
+    let order = all().find(|&(_, fixed)| fixed == seed).map_or(0, |(order, _)| order);
+    Ok((vec![(order, seed)], false))
+}
+
+fn run(program: &Path, seeds: &[(usize, u64)], full: bool, tally: &mut Tally) {
+    let mut table = coverage::Table::new();
+    timed("trials of document 01", || trials::run_all(program, tally));
+    for side in [Side::Host, Side::Desk] {
+        let name = if side == Side::Host { "host" } else { "desk" };
+        timed(name, || {
+            let mut facts = Facts::new();
+            sweep_side(side, program, seeds, full, &mut facts, tally);
+            table.of_side(side, &facts);
+            if side == Side::Host {
+                table.of_pages(&facts);
+            }
+        });
+    }
+    timed("refusal frames", || refusal_frames(seeds, tally));
+    timed("brute force", || {
+        let mut met = brute::Met::default();
+        for &(_, seed) in seeds {
+            brute::run(seed, BRUTE_CASES / SEEDS.len(), tally, &mut met);
+        }
+        table.of_brute_force(&met);
+    });
+    if full {
+        timed("wrong planners", || wrong_planners(program, tally));
+        table.close(tally);
+    }
+}
+
+fn timed(name: &str, part: impl FnOnce()) {
+    let start = Instant::now();
+    println!("-- {name}");
+    part();
+    println!("-- {name}: {:.1} s", start.elapsed().as_secs_f64());
+}
+
+fn sweep_side(side: Side, program: &Path, seeds: &[(usize, u64)], full: bool, facts: &mut Facts, tally: &mut Tally) {
+    let mut sum = 0;
+    for family in &FAMILIES {
+        let start = Instant::now();
+        let compared = sweep::family(family, side, program, seeds, SEEDS.len(), facts, tally);
+        let seconds = start.elapsed().as_secs_f64();
+        println!("{compared:>9}  {} {} ({seconds:.1} s)", family.letter, family.name);
+        sum += compared;
+        if full {
+            tally.check(&format!("sheets of family {}", family.letter), compared >= family.count(side));
+        }
+    }
+    println!("{sum:>9}  sheets");
+    if full {
+        let (least, mark, most) = match side {
+            Side::Host => (LEAST_AT_HOST, Mark::Filed, "most sheets for the host end with a plan filed"),
+            Side::Desk => (LEAST_AT_DESK, Mark::PlanAfterRefusals, "most desk sheets plan after three refused lines"),
+        };
+        tally.check("number of sheets", sum >= least);
+        tally.check(most, facts.count(mark) as usize * 2 > sum);
+    }
+}
+
+/// The call that files a refusal, with any line and number and every relation of page and place.
+fn refusal_frames(seeds: &[(usize, u64)], tally: &mut Tally) {
+    for &(_, seed) in seeds {
+        let mut random = Random::new(seed);
+        for index in 0..REFUSAL_CALLS / SEEDS.len() {
+            let line = match random.below(3) {
+                0 => random.pick(&[0, 1, 255, 256, 65_535, 65_536, u32::MAX]),
+                _ => random.next() as u32,
+            };
+            let relations = if index % 2 == 0 { &compare::WITH_ROOM[..] } else { &compare::WITHOUT_ROOM[..] };
+            let relation = random.pick(relations);
+            let found = compare::refusal_call(line, random.next() as u8, relation, random.next());
+            tally.count(found.is_none());
+            if let Some(difference) = found {
+                println!("DIFFERENCE in a refusal frame, seed {seed:#x}, {relation:?}");
+                println!("second planner: {}\nproduct: {}", difference.second, difference.product);
+                return;
+            }
+        }
+    }
+}
+
+/// Each wrong planner must be found, by sheets for the host and by sheets for the desk where it shows at both.
+fn wrong_planners(program: &Path, tally: &mut Tally) {
+    let mut small = 0;
+    for &(astray, due, name) in ALL {
+        let mut sizes = Vec::new();
+        for (side, place, other) in [(Side::Host, "host", Due::Desk), (Side::Desk, "desk", Due::Host)] {
+            if due == other {
+                continue;
+            }
+            let found = sweep::find(astray, side, program, SEEDS[0]);
+            tally.check(&format!("a wrong planner is found at the {place}: {name}"), found.is_some());
+            if let Some(sheet) = found {
+                small += usize::from(sheet.len() <= SMALL_SHEET);
+                sizes.push(format!("{place} {} bytes", sheet.len()));
+            }
+        }
+        let result = if sizes.is_empty() { "not found".to_string() } else { sizes.join(", ") };
+        println!("{name}: {result}");
+    }
+    // Some need 64 jobs or the longest sheet; the others come down to a few lines where the shrinker does its work.
+    tally.check("wrong planners show on small sheets", small > ALL.len());
+    for astray in FOUND_BY_BRUTE_FORCE {
+        let found = brute::finds(astray, SEEDS[0], 2_000);
+        tally.check(&format!("the brute force finds a wrong planner: {astray:?}"), found);
+    }
+}

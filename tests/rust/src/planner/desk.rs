@@ -1,0 +1,89 @@
+//! The sheet desk: reads a sheet line by line, goes on after a refused line, and prints frames 81 and 8E.
+
+use super::astray::Astray;
+use super::book::Book;
+use super::frames::{frame_of, lines, refusal_frame, Frame, Line};
+use super::refusal::{Refusal, MALFORMED};
+use crate::facts::{Facts, Mark};
+
+pub const LONGEST_SHEET: usize = 65_536;
+
+/// All that the desk program prints for this sheet.
+pub fn printed(sheet: &[u8], astray: Option<Astray>, facts: &mut Facts) -> Vec<u8> {
+    note_length(sheet, facts);
+    if too_long(sheet, astray) {
+        facts.refusals[usize::from(MALFORMED)] += 1;
+        return refusal_frame(0, MALFORMED);
+    }
+    let mut book = Book::new(astray);
+    let mut output = Vec::new();
+    let mut refused = [0; 18];
+    let mut planned_after = [0; 18];
+    for (line, number) in lines(sheet, astray).iter().zip(1u32..) {
+        match reply(&mut book, line, astray, facts) {
+            Ok(frame) if frame.is_empty() => (),
+            Ok(frame) => {
+                planned_after = refused;
+                output.extend(frame);
+            }
+            Err(refusal) => {
+                refused[usize::from(refusal)] += 1;
+                note_refusal(refusal, number, facts);
+                let shown = number - u32::from(astray == Some(Astray::LinesFromZero));
+                output.extend(refusal_frame(shown, refusal));
+                if astray == Some(Astray::RefusalEmptiesRoster) {
+                    book.forget_jobs();
+                }
+            }
+        }
+    }
+    note_sheet(sheet, &refused, &planned_after, facts);
+    output
+}
+
+// The facts of a whole sheet: its refused lines in all, and those before its last plan.
+fn note_sheet(sheet: &[u8], refused: &[u32; 18], planned_after: &[u32; 18], facts: &mut Facts) {
+    let none = refused.iter().all(|&count| count == 0);
+    facts.mark_if(none && sheet.len() == LONGEST_SHEET, Mark::Longest);
+    facts.mark_if(planned_after.iter().sum::<u32>() >= 3, Mark::PlanAfterRefusals);
+    for (number, &count) in planned_after.iter().enumerate() {
+        facts.plans_after[number] += u64::from(count > 0);
+    }
+}
+
+// What one line prints if it is not refused: nothing for 01 to 04, the plan for 05.
+fn reply(book: &mut Book, line: &Line, astray: Option<Astray>, facts: &mut Facts) -> Result<Vec<u8>, Refusal> {
+    let frame = frame_of(line, astray, facts).ok_or(MALFORMED)?;
+    if let Frame::Plan = frame {
+        return book.plan(facts);
+    }
+    book.take(&frame, facts)?;
+    note_accepted(line, facts);
+    Ok(Vec::new())
+}
+
+pub fn too_long(sheet: &[u8], astray: Option<Astray>) -> bool {
+    let longest = match astray {
+        Some(Astray::LongSheetRead) => LONGEST_SHEET + 1,
+        Some(Astray::FullSheetRefused) => LONGEST_SHEET - 1,
+        _ => LONGEST_SHEET,
+    };
+    sheet.len() > longest
+}
+
+pub fn note_length(sheet: &[u8], facts: &mut Facts) {
+    facts.mark_if(sheet.is_empty(), Mark::Empty);
+    facts.mark_if(sheet.len() == 65_535, Mark::Length65535);
+    facts.mark_if(sheet.len() == 65_536, Mark::Length65536);
+    facts.mark_if(sheet.len() == 65_537, Mark::Length65537);
+}
+
+pub fn note_refusal(refusal: Refusal, line: u32, facts: &mut Facts) {
+    facts.refusals[usize::from(refusal)] += 1;
+    facts.mark_if(line > 255, Mark::LateLine);
+    facts.mark_if(line > 65_535, Mark::LatestLine);
+}
+
+pub fn note_accepted(line: &Line, facts: &mut Facts) {
+    facts.mark_if(line.text.iter().any(|byte| byte.is_ascii_lowercase()), Mark::LowerCase);
+}

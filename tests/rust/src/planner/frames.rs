@@ -1,0 +1,139 @@
+//! Lines of hexadecimal and the frames in them.
+
+use super::astray::Astray;
+use crate::facts::{Facts, Mark, LENGTHS};
+
+pub enum Frame {
+    Machine { m: u32, l: u32, b: u32, d: u32 },
+    Power(Vec<u32>),
+    Admit { id: u32, cost: u32, period: u32 },
+    Retire { id: u32 },
+    Plan,
+}
+
+pub struct Line<'a> {
+    pub text: &'a [u8],
+    pub closed: bool,
+}
+
+/// A line runs to its 0A or to the end of the sheet; after a last 0A no line follows.
+pub fn lines(sheet: &[u8], astray: Option<Astray>) -> Vec<Line<'_>> {
+    let mut list = Vec::new();
+    let mut rest = sheet;
+    while !rest.is_empty() {
+        match rest.iter().position(|&byte| byte == b'\n') {
+            Some(end) => {
+                list.push(Line { text: &rest[..end], closed: true });
+                rest = &rest[end + 1..];
+            }
+            None => {
+                list.push(Line { text: rest, closed: false });
+                rest = &[];
+            }
+        }
+    }
+    if astray == Some(Astray::EmptyLineSkipped) {
+        list.retain(|line| !line.text.is_empty());
+    }
+    if astray == Some(Astray::LastLineEmpty) && sheet.last() == Some(&b'\n') {
+        list.push(Line { text: &[], closed: false });
+    }
+    list
+}
+
+/// The frame of a line, or nothing where the line is malformed.
+pub fn frame_of(line: &Line, astray: Option<Astray>, facts: &mut Facts) -> Option<Frame> {
+    if !line.closed {
+        facts.mark(Mark::LineUnclosed);
+        if astray != Some(Astray::UnclosedAccepted) {
+            return None;
+        }
+    }
+    let mut text = line.text;
+    if astray == Some(Astray::CarriageReturnDropped) {
+        text = text.strip_suffix(b"\r").unwrap_or(text);
+    }
+    let bytes = bytes_of(text, astray, facts)?;
+    let (&kind, rest) = bytes.split_first()?;
+    let frame = frame_of_bytes(kind, rest);
+    note_shape(kind, rest.len(), frame.is_some(), facts);
+    frame
+}
+
+fn bytes_of(text: &[u8], astray: Option<Astray>, facts: &mut Facts) -> Option<Vec<u8>> {
+    if text.is_empty() {
+        facts.mark(Mark::LineEmpty);
+        return None;
+    }
+    let mut digits = Vec::with_capacity(text.len());
+    for (position, &byte) in text.iter().enumerate() {
+        match digit(byte, astray) {
+            Some(value) => digits.push(value),
+            None => {
+                facts.wrong_digits[position % 2][usize::from(byte)] += 1;
+                return None;
+            }
+        }
+    }
+    if digits.len() % 2 != 0 {
+        facts.mark(Mark::LineOdd);
+        return None;
+    }
+    Some(digits.chunks(2).map(|pair| pair[0] * 16 + pair[1]).collect())
+}
+
+fn digit(byte: u8, astray: Option<Astray>) -> Option<u8> {
+    match byte {
+        b'0'..=b'9' => Some(byte - b'0'),
+        b'A'..=b'F' => Some(byte - b'A' + 10),
+        b'a'..=b'f' if astray == Some(Astray::LowerCaseRefused) => None,
+        b'a'..=b'f' => Some(byte - b'a' + 10),
+        _ => None,
+    }
+}
+
+fn frame_of_bytes(kind: u8, rest: &[u8]) -> Option<Frame> {
+    match (kind, rest.len()) {
+        (0x01, 6) => Some(Frame::Machine {
+            m: number(&rest[0..1]),
+            l: number(&rest[1..2]),
+            b: number(&rest[2..4]),
+            d: number(&rest[4..6]),
+        }),
+        (0x02, 4..=128) if rest.len() % 4 == 0 => Some(Frame::Power(rest.chunks(4).map(number).collect())),
+        (0x03, 6) => {
+            Some(Frame::Admit { id: number(&rest[0..2]), cost: number(&rest[2..4]), period: number(&rest[4..6]) })
+        }
+        (0x04, 2) => Some(Frame::Retire { id: number(rest) }),
+        (0x05, 0) => Some(Frame::Plan),
+        _ => None,
+    }
+}
+
+// High byte first.
+fn number(bytes: &[u8]) -> u32 {
+    bytes.iter().fold(0, |value, &byte| value * 256 + u32::from(byte))
+}
+
+fn note_shape(kind: u8, length: usize, known: bool, facts: &mut Facts) {
+    match kind {
+        1..=5 if length < LENGTHS => facts.lengths[usize::from(kind)][length] += 1,
+        1..=5 => (),
+        _ => facts.unknown_kinds[usize::from(kind)] += u64::from(!known),
+    }
+}
+
+/// A frame as it is filed: upper case, closed by 0A.
+pub fn filed(bytes: &[u8]) -> Vec<u8> {
+    let mut text: Vec<u8> = bytes.iter().flat_map(|byte| format!("{byte:02X}").into_bytes()).collect();
+    text.push(b'\n');
+    text
+}
+
+/// Frame 8E with its 0A.
+pub fn refusal_frame(line: u32, number: u8) -> Vec<u8> {
+    let mut bytes = vec![0x8E];
+    bytes.extend(line.to_be_bytes());
+    bytes.push(number);
+    filed(&bytes)
+}

@@ -1,0 +1,12 @@
+//! The second planner: document 01 written down once more, for clarity and not for speed. It shares nothing with the product.
+
+pub mod astray;
+pub mod book;
+pub mod capacity;
+pub mod desk;
+pub mod frames;
+pub mod growing;
+pub mod host;
+pub mod machine;
+pub mod power;
+pub mod refusal;

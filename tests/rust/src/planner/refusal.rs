@@ -1,0 +1,20 @@
+//! The refusal numbers of document 01.
+
+pub type Refusal = u8;
+
+pub const PROCESSORS: Refusal = 1;
+pub const SPEEDS: Refusal = 2;
+pub const POWER_TABLE: Refusal = 3;
+pub const JOB_NUMBERS: Refusal = 4;
+pub const MALFORMED: Refusal = 5;
+pub const NO_ROOM: Refusal = 6;
+pub const NO_MACHINE: Refusal = 11;
+pub const MACHINE_OPEN: Refusal = 12;
+pub const ID_HELD: Refusal = 13;
+pub const ID_NOT_HELD: Refusal = 14;
+pub const PLACES_FULL: Refusal = 15;
+pub const CYCLE_TOO_LONG: Refusal = 16;
+pub const NO_PLAN: Refusal = 17;
+
+/// Every number that a line of a sheet can meet.
+pub const OF_A_LINE: [Refusal; 12] = [1, 2, 3, 4, 5, 11, 12, 13, 14, 15, 16, 17];

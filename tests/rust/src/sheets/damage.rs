@@ -1,0 +1,144 @@
+//! Damaged lines of each kind.
+
+use super::draft::{admission, bytes_of, Draft};
+use super::lives;
+use super::machines;
+use crate::facts::{Facts, LENGTHS};
+use crate::planner::frames::{frame_of, Frame, Line};
+use crate::random::Random;
+
+/// The bytes next to the ranges of digits, and others that a careless reader lets pass.
+const NEIGHBOURS: [u8; 16] =
+    [b'/', b':', b'@', b'G', b'`', b'g', b' ', b'\t', b'\r', 0, 0x7F, 0x80, 0xFF, b'x', b'-', b'+'];
+
+/// Adds one malformed line.
+pub fn damaged_line(draft: &mut Draft) {
+    loop {
+        let text = damaged_text(draft);
+        let whole = !text.contains(&b'\n');
+        let line = Line { text: &text, closed: true };
+        if whole && frame_of(&line, None, &mut Facts::new()).is_none() {
+            draft.line(&text);
+            return;
+        }
+    }
+}
+
+fn damaged_text(draft: &mut Draft) -> Vec<u8> {
+    let frame = any_frame(&mut draft.random);
+    let mut text = draft.text(&frame);
+    let place = draft.random.below(text.len() as u64) as usize;
+    match draft.random.below(12) {
+        0..=4 => text[place] = wrong_byte(&mut draft.random),
+        5 => text.push(b'\r'),
+        6 => text.insert(place, wrong_byte(&mut draft.random)),
+        7 => {
+            text.remove(place);
+        }
+        8 => text.push(b'0'),
+        9 => text.clear(),
+        10 => {
+            let bytes = unknown_kind(&mut draft.random);
+            text = draft.digits(&bytes);
+        }
+        _ => {
+            let bytes = wrong_length(&mut draft.random);
+            text = draft.digits(&bytes);
+        }
+    }
+    text
+}
+
+fn wrong_byte(random: &mut Random) -> u8 {
+    if random.one_in(3) {
+        random.pick(&NEIGHBOURS)
+    } else {
+        random.next() as u8
+    }
+}
+
+/// A well-formed frame with any numbers.
+fn any_frame(random: &mut Random) -> Frame {
+    match random.below(5) {
+        0 => machines::valid(random),
+        1 => Frame::Power((0..random.between(1, 4)).map(|_| random.next() as u32).collect()),
+        2 => admission(random.between(1, 9), random.between(1, 9), random.between(9, 99)),
+        3 => Frame::Retire { id: random.between(1, 9) as u32 },
+        _ => Frame::Plan,
+    }
+}
+
+/// A kind that is not read, with the rest of a frame that is, or with that of a frame that is only written.
+fn unknown_kind(random: &mut Random) -> Vec<u8> {
+    let mut bytes = bytes_of(&any_frame(random));
+    bytes[0] = random.pick(&[0, 6, 7, 0x10, 0x80, 0x81, 0x82, 0x8E, 0xFF, 1]);
+    if random.one_in(2) || bytes[0] == 1 {
+        bytes[0] = random.next() as u8;
+    }
+    match bytes[0] {
+        0x81 if random.one_in(2) => vec![0x81, 0, 0, 0, 0, 1, 0, 0, 0, 1, 0, 0, 0],
+        0x8E if random.one_in(2) => vec![0x8E, 0, 0, 0, 7, 17],
+        _ => bytes,
+    }
+}
+
+/// The kinds that are not read, in turn, each with nothing or with a byte or two after it.
+fn unknown_kind_in_turn(index: usize) -> Vec<u8> {
+    let kinds: Vec<u8> = (0..=255).filter(|kind| !(1..=5).contains(kind)).collect();
+    let kind = kinds[index % kinds.len()];
+    [kind, 0, 1][..1 + index % 3].to_vec()
+}
+
+/// A kind 01 to 05 with any number of bytes after it.
+fn wrong_length(random: &mut Random) -> Vec<u8> {
+    let kind = random.between(1, 5) as u8;
+    let longest = if random.one_in(4) { 140 } else { 12 };
+    let length = random.between(0, longest) as usize;
+    let mut bytes = vec![kind];
+    bytes.extend((0..length).map(|_| random.below(3) as u8));
+    bytes
+}
+
+/// Kind 02 with this many bytes after it: values that rise by one, and a last one cut short.
+fn power_of_length(length: usize) -> Vec<u8> {
+    let mut bytes = vec![2];
+    bytes.extend((1u32..).flat_map(|value| value.to_be_bytes()).take(length));
+    bytes
+}
+
+/// Family g: an undamaged life, then the damage; for the desk damage all over.
+pub fn damage(draft: &mut Draft) {
+    if draft.for_desk() {
+        damaged_line(draft);
+    }
+    let length = draft.index % LENGTHS;
+    let levels = (length as u64 / 4).clamp(1, 32);
+    let m = draft.random.between(1, 4);
+    let machine = machines::with(&mut draft.random, m, levels);
+    draft.put(&machine);
+    let jobs = draft.random.between(0, 4);
+    lives::admit_some(draft, jobs);
+    match draft.random.below(4) {
+        0 => whole_line(draft, &power_of_length(length)),
+        1 => whole_line(draft, &unknown_kind_in_turn(draft.index)),
+        _ => damaged_line(draft),
+    }
+    for _ in 0..draft.random.below(3) {
+        draft.unsettle();
+    }
+    draft.put(&Frame::Plan);
+    if draft.for_desk() {
+        whole_line(draft, &power_of_length(length));
+        draft.finish();
+    }
+    if draft.random.one_in(6) {
+        let frame = any_frame(&mut draft.random);
+        let text = draft.text(&frame);
+        draft.raw(&text);
+    }
+}
+
+fn whole_line(draft: &mut Draft, bytes: &[u8]) {
+    let text = draft.digits(bytes);
+    draft.line(&text);
+}

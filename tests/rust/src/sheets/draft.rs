@@ -1,0 +1,166 @@
+//! A sheet in the making. The book of the second planner follows it, so that a maker knows what the next line would meet.
+
+use super::refused;
+use super::Side;
+use crate::facts::Facts;
+use crate::planner::book::Book;
+use crate::planner::capacity::hyperperiod;
+use crate::planner::frames::{frame_of, Frame, Line};
+use crate::planner::machine::Machine;
+use crate::random::Random;
+
+#[derive(Clone, Copy)]
+enum Case {
+    Upper,
+    Lower,
+    Mixed,
+}
+
+pub struct Draft {
+    pub random: Random,
+    pub side: Side,
+    /// The number of the sheet in its family, for makers that go through a list in turn.
+    pub index: usize,
+    pub book: Book,
+    bytes: Vec<u8>,
+    case: Case,
+    // What the book meets here does not count; the comparison counts it.
+    unused: Box<Facts>,
+}
+
+impl Draft {
+    pub fn new(mut random: Random, side: Side, index: usize) -> Self {
+        let case = random.pick(&[Case::Upper, Case::Upper, Case::Lower, Case::Mixed]);
+        let unused = Box::new(Facts::new());
+        Draft { random, side, index, book: Book::new(None), bytes: Vec::new(), case, unused }
+    }
+
+    pub fn into_sheet(self) -> Vec<u8> {
+        self.bytes
+    }
+
+    pub fn length(&self) -> usize {
+        self.bytes.len()
+    }
+
+    pub fn for_desk(&self) -> bool {
+        self.side == Side::Desk
+    }
+
+    /// The machine on the book; makers ask only after one was opened.
+    pub fn machine(&self) -> Machine {
+        self.book.machine().expect("the maker has opened a machine")
+    }
+
+    pub fn cycle(&self) -> u64 {
+        hyperperiod(&self.book.jobs()) as u64
+    }
+
+    /// Adds the frame if the book accepts it.
+    pub fn offer(&mut self, frame: &Frame) -> bool {
+        let accepted = self.book.take(frame, &mut self.unused).is_ok();
+        if accepted {
+            let text = self.text(frame);
+            self.raw(&text);
+            self.raw(b"\n");
+        }
+        accepted
+    }
+
+    /// Adds the frame, whether the book accepts it or not.
+    pub fn put(&mut self, frame: &Frame) {
+        let _ = self.book.take(frame, &mut self.unused);
+        let text = self.text(frame);
+        self.raw(&text);
+        self.raw(b"\n");
+    }
+
+    /// Adds a line with this text; the book follows if it is a frame after all.
+    pub fn line(&mut self, text: &[u8]) {
+        let line = Line { text, closed: true };
+        if let Some(frame) = frame_of(&line, None, &mut self.unused) {
+            let _ = self.book.take(&frame, &mut self.unused);
+        }
+        self.raw(text);
+        self.raw(b"\n");
+    }
+
+    /// Adds bytes as they are.
+    pub fn raw(&mut self, bytes: &[u8]) {
+        self.bytes.extend_from_slice(bytes);
+    }
+
+    pub fn admit(&mut self, id: u64, cost: u64, period: u64) -> bool {
+        self.offer(&admission(id, cost, period))
+    }
+
+    /// Lines after which a reader of the desk's output learns most: refused ones, then a plan. The host's call would end there.
+    pub fn unsettle(&mut self) {
+        if !self.for_desk() {
+            if self.random.one_in(6) {
+                self.put(&Frame::Plan);
+            }
+            return;
+        }
+        for _ in 0..self.random.below(3) {
+            refused::any(self);
+        }
+        if self.random.one_in(2) {
+            self.put(&Frame::Plan);
+        }
+    }
+
+    /// The end of a sheet: for the host a refused line now and then, for the desk refused lines and a plan.
+    pub fn finish(&mut self) {
+        if self.for_desk() {
+            for _ in 0..self.random.between(1, 4) {
+                refused::any(self);
+            }
+            self.put(&Frame::Plan);
+        } else if self.random.one_in(7) {
+            refused::any(self);
+            self.put(&Frame::Plan);
+        }
+    }
+
+    /// The digits of a frame, in the sheet's letter case.
+    pub fn text(&mut self, frame: &Frame) -> Vec<u8> {
+        self.digits(&bytes_of(frame))
+    }
+
+    pub fn digits(&mut self, bytes: &[u8]) -> Vec<u8> {
+        let mut text = Vec::with_capacity(bytes.len() * 2);
+        for byte in bytes {
+            for value in [byte >> 4, byte & 15] {
+                let upper = b"0123456789ABCDEF"[usize::from(value)];
+                let lower = match self.case {
+                    Case::Upper => false,
+                    Case::Lower => true,
+                    Case::Mixed => self.random.one_in(2),
+                };
+                text.push(if lower { upper.to_ascii_lowercase() } else { upper });
+            }
+        }
+        text
+    }
+}
+
+pub fn admission(id: u64, cost: u64, period: u64) -> Frame {
+    Frame::Admit { id: id as u32, cost: cost as u32, period: period as u32 }
+}
+
+/// The bytes of a frame, high byte first; numbers beyond their field lose their high bytes.
+pub fn bytes_of(frame: &Frame) -> Vec<u8> {
+    let two = |number: u32| (number as u16).to_be_bytes();
+    match frame {
+        Frame::Machine { m, l, b, d } => [&[1, *m as u8, *l as u8][..], &two(*b), &two(*d)].concat(),
+        Frame::Power(values) => {
+            let mut bytes = vec![2];
+            bytes.extend(values.iter().flat_map(|value| value.to_be_bytes()));
+            bytes
+        }
+        Frame::Admit { id, cost, period } => [&[3][..], &two(*id), &two(*cost), &two(*period)].concat(),
+        Frame::Retire { id } => [&[4][..], &two(*id)].concat(),
+        Frame::Plan => vec![5],
+    }
+}

@@ -1,0 +1,188 @@
+//! Lives of a roster: jobs admitted, retired and admitted again, on machines of every size.
+
+use super::cycles;
+use super::draft::{admission, Draft};
+use super::machines;
+use super::refused;
+use super::tables;
+use crate::planner::frames::Frame;
+use crate::random::Random;
+
+/// Cycles with many divisors, and the longest one that periods can reach.
+const CYCLES: [u64; 16] = [
+    10, 60, 128, 720, 5_040, 27_720, 32_768, 46_080, 55_440, 65_520, 65_535, 720_720, 1_441_440, 14_414_400,
+    16_773_120, 16_777_215,
+];
+
+/// The periods from which a sheet draws: divisors of one cycle, so that the limit on H is kept.
+pub struct Periods {
+    primes: Vec<u64>,
+}
+
+impl Periods {
+    pub fn any(random: &mut Random) -> Self {
+        Periods { primes: cycles::prime_factors(random.pick(&CYCLES)) }
+    }
+
+    pub fn one(&mut self, random: &mut Random) -> u64 {
+        random.shuffle(&mut self.primes);
+        let mut period = 1;
+        for prime in &self.primes {
+            if period * prime <= 65_535 && !random.one_in(3) {
+                period *= prime;
+            }
+        }
+        period
+    }
+}
+
+/// A job that asks for at most this many hundredths of a processor.
+fn job(random: &mut Random, id: u64, periods: &mut Periods, hundredths: u64) -> Frame {
+    let period = periods.one(random);
+    let most = (period * hundredths / 100).clamp(1, period);
+    let cost = if random.one_in(6) { most } else { random.between(1, most) };
+    admission(id, cost, period)
+}
+
+/// Admits up to so many jobs of any weight.
+pub fn admit_some(draft: &mut Draft, count: u64) {
+    let mut periods = Periods::any(&mut draft.random);
+    let weight = draft.random.pick(&[5, 30, 100, 100]);
+    for _ in 0..count {
+        let id = refused::new_id(draft);
+        let frame = job(&mut draft.random, id, &mut periods, weight);
+        draft.offer(&frame);
+    }
+}
+
+fn fill(draft: &mut Draft, ids: &mut Vec<u64>, periods: &mut Periods, target: usize) {
+    let m = u64::from(draft.machine().processors);
+    let mut weight = (draft.random.between(1, 3) * m * 100 / 64).clamp(1, 100);
+    let mut tries = 0;
+    while draft.book.jobs().len() < target && tries < 3 * target {
+        tries += 1;
+        let id = match ids.pop() {
+            Some(id) if !draft.book.holds(id as u32) => id,
+            _ => refused::new_id(draft),
+        };
+        let frame = job(&mut draft.random, id, periods, weight);
+        if !draft.offer(&frame) {
+            weight = (weight / 2).max(1);
+        }
+        if draft.for_desk() && draft.random.one_in(12) {
+            draft.unsettle();
+        }
+    }
+}
+
+/// Retires some jobs and remembers their ids, to be admitted again with other numbers.
+fn retire_some(draft: &mut Draft, ids: &mut Vec<u64>) {
+    let mut jobs = draft.book.jobs();
+    draft.random.shuffle(&mut jobs);
+    let count = match draft.random.below(8) {
+        0 => jobs.len(),
+        1 => jobs.len() / 2,
+        _ => draft.random.between(1, 6) as usize,
+    };
+    for job in jobs.iter().take(count) {
+        draft.put(&Frame::Retire { id: job.id });
+        if draft.random.one_in(2) {
+            ids.push(u64::from(job.id));
+        }
+    }
+}
+
+/// Family a.
+pub fn lives(draft: &mut Draft) {
+    draft.unsettle();
+    let machine = machines::valid(&mut draft.random);
+    draft.put(&machine);
+    let mut periods = Periods::any(&mut draft.random);
+    let mut ids = Vec::new();
+    let target = if draft.random.one_in(2) { 64 } else { draft.random.between(4, 40) as usize };
+    fill(draft, &mut ids, &mut periods, target);
+    draft.unsettle();
+    for _ in 0..draft.random.between(1, 2) {
+        retire_some(draft, &mut ids);
+        draft.unsettle();
+        if draft.random.one_in(3) {
+            let levels = draft.machine().levels as usize;
+            let table = tables::convex(&mut draft.random, levels);
+            draft.put(&Frame::Power(table));
+        }
+        if draft.random.one_in(3) && draft.book.jobs().is_empty() {
+            periods = Periods::any(&mut draft.random);
+        }
+        if !draft.random.one_in(4) {
+            fill(draft, &mut ids, &mut periods, target);
+            draft.unsettle();
+        }
+    }
+    full_roster(draft);
+    draft.finish();
+}
+
+// With 64 jobs held, 15 meets its neighbours in the order: 13 before it, 16 and 17 after it.
+fn full_roster(draft: &mut Draft) {
+    if draft.book.jobs().len() == 64 && (draft.for_desk() || draft.random.one_in(4)) {
+        let number = draft.random.pick(&[13, 15]);
+        refused::of_number(draft, number);
+    }
+}
+
+/// Family i: small machines and few jobs, of which many are refused by 17.
+pub fn small(draft: &mut Draft) {
+    let machine = machines::small(&mut draft.random);
+    draft.put(&machine);
+    let period = draft.random.between(1, 24);
+    for id in 1..=draft.random.between(1, 6) {
+        let period = draft.random.pick(&[period, period, 2 * period, 12]);
+        let cost = draft.random.between(1, period);
+        draft.admit(id, cost, period);
+    }
+    draft.unsettle();
+    draft.finish();
+}
+
+/// Family j: any line after any other.
+pub fn mixtures(draft: &mut Draft) {
+    let mut periods = Periods::any(&mut draft.random);
+    if !draft.random.one_in(10) {
+        let machine = machines::valid(&mut draft.random);
+        draft.unsettle();
+        draft.put(&machine);
+    }
+    for _ in 0..draft.random.between(1, 16) {
+        mixed_line(draft, &mut periods);
+    }
+    draft.finish();
+}
+
+fn mixed_line(draft: &mut Draft, periods: &mut Periods) {
+    let jobs = draft.book.jobs();
+    let machine = draft.book.machine();
+    match draft.random.below(10) {
+        0 if !jobs.is_empty() => {
+            let id = draft.random.pick(&jobs).id;
+            draft.put(&Frame::Retire { id });
+        }
+        1 => draft.put(&Frame::Plan),
+        2 if machine.is_some() => {
+            let levels = draft.machine().levels as usize;
+            let table = tables::convex(&mut draft.random, levels);
+            draft.put(&Frame::Power(table));
+        }
+        3 if draft.for_desk() => refused::any(draft),
+        4 if draft.for_desk() => {
+            let bytes: Vec<u8> = (0..draft.random.below(9)).map(|_| draft.random.next() as u8).collect();
+            let text = draft.digits(&bytes);
+            draft.line(&text);
+        }
+        _ => {
+            let id = refused::new_id(draft);
+            let weight = draft.random.pick(&[10, 50, 100, 100]);
+            let frame = job(&mut draft.random, id, periods, weight);
+            draft.offer(&frame);
+        }
+    }
+}

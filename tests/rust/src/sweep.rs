@@ -1,0 +1,108 @@
+//! The sweep over all families, on the host's call and on the desk program, and the search for wrong planners.
+
+use crate::compare::{desk, host, Difference, Relation, WITHOUT_ROOM, WITH_ROOM};
+use crate::facts::Facts;
+use crate::planner::astray::Astray;
+use crate::random::Random;
+use crate::sheets::{Family, Side, FAMILIES};
+use crate::shrink::{shown, shrink};
+use crate::tally::Tally;
+use std::path::Path;
+
+/// One comparison, with all that it takes to make it again.
+struct Trial<'a> {
+    side: Side,
+    program: &'a Path,
+    relations: Vec<Relation>,
+    seed: u64,
+    astray: Option<Astray>,
+}
+
+impl<'a> Trial<'a> {
+    /// A page with room for every sheet, and one without for every fourth.
+    fn new(side: Side, program: &'a Path, seed: u64, index: usize, astray: Option<Astray>) -> Self {
+        let mut random = Random::for_sheet(seed, 1, index);
+        let mut relations = vec![random.pick(&WITH_ROOM)];
+        if random.one_in(4) {
+            relations.push(random.pick(&WITHOUT_ROOM));
+        }
+        Trial { side, program, relations, seed: random.next(), astray }
+    }
+
+    fn difference(&self, sheet: &[u8], facts: &mut Facts) -> Option<Difference> {
+        match self.side {
+            Side::Host => host(sheet, &self.relations, self.seed, self.astray, facts),
+            Side::Desk => desk(self.program, sheet, self.astray, facts),
+        }
+    }
+
+    /// The smallest sheet found on which the two still differ. A true difference is worth a long search; a wrong planner only has
+    /// to be found, and a process for each probe is dear.
+    fn shrunk(&self, sheet: &[u8]) -> Vec<u8> {
+        let budget = match (self.astray, self.side) {
+            (None, Side::Host) => 200_000,
+            (None, Side::Desk) => 20_000,
+            (_, Side::Host) => 2_000,
+            (_, Side::Desk) => 120,
+        };
+        shrink(sheet, budget, &mut |sheet| self.difference(sheet, &mut Facts::new()).is_some())
+    }
+}
+
+/// All sheets of one family on one side; stops at the first difference. Returns the number of sheets compared.
+pub fn family(
+    family: &Family,
+    side: Side,
+    program: &Path,
+    seeds: &[(usize, u64)],
+    shares: usize,
+    facts: &mut Facts,
+    tally: &mut Tally,
+) -> usize {
+    let share = family.count(side).div_ceil(shares);
+    let mut compared = 0;
+    for &(order, seed) in seeds {
+        for index in order * share..(order + 1) * share {
+            let sheet = family.sheet(seed, side, index);
+            let trial = Trial::new(side, program, seed, index, None);
+            let found = trial.difference(&sheet, facts);
+            tally.count(found.is_none());
+            compared += 1;
+            if found.is_some() {
+                report(family, seed, index, &trial, &sheet);
+                return compared;
+            }
+        }
+    }
+    compared
+}
+
+fn report(family: &Family, seed: u64, index: usize, trial: &Trial, sheet: &[u8]) {
+    let small = trial.shrunk(sheet);
+    let side = if trial.side == Side::Host { "host" } else { "desk" };
+    println!("DIFFERENCE at the {side}, seed {seed:#x}, family {}, sheet {index}", family.letter);
+    println!("shrunk to {} bytes:\n{}", small.len(), shown(&small));
+    if let Some(difference) = trial.difference(&small, &mut Facts::new()) {
+        println!("second planner: {}", difference.second);
+        println!("product: {}", difference.product);
+    }
+}
+
+/// Looks for a sheet of this side that tells a wrong planner from the product; returns its shrunk form.
+pub fn find(astray: Astray, side: Side, program: &Path, seed: u64) -> Option<Vec<u8>> {
+    let rounds = if side == Side::Host { 1_000 } else { 200 };
+    for index in 0..rounds {
+        for family in &FAMILIES {
+            // Long sheets are dear; a few of them do.
+            if family.letter == 'h' && index >= 48 {
+                continue;
+            }
+            let sheet = family.sheet(seed, side, index);
+            let trial = Trial::new(side, program, seed, index, Some(astray));
+            if trial.difference(&sheet, &mut Facts::new()).is_some() {
+                return Some(trial.shrunk(&sheet));
+            }
+        }
+    }
+    None
+}
