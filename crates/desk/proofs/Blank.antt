@@ -7,7 +7,7 @@ use mathlib.Core.List.{List, [], _∷_, _++_, append-assoc}
 use borrow.Author.Tests.{lt-ltb, le-ltb, ne-eqb}
 use lib.ListN.{drop, replicate}
 use Rattle.hexadecimal.specs.Text.{digitOf, digitsOf, lineOf}
-use Rattle.desk.specs.Sheets.{writtenOn}
+use Rattle.sheets.specs.Sheets.{writtenOn}
 
 -- A byte that is not 0 was written.
 on-some : (byte : ℕ) (rest : List ℕ) → (byte ≡ 0 → ⊥) → writtenOn (byte ∷ rest) ≡ byte ∷ writtenOn rest

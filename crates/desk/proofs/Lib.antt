@@ -1,4 +1,3 @@
-pub mod AcceptanceTrials
 pub mod Filling
 pub mod Pages
 pub mod Blank

@@ -29,7 +29,7 @@ use Rattle.filing.proofs.Results.{files}
 use Rattle.desk.specs.declared.Desk.{Desk}
 use Rattle.calls.specs.Lines.{Asked, malformed, change, plan, asked, LineReply, replyAs, lineReply}
 use Rattle.calls.specs.Calls.{Line, readAs, onModel, onRoster, replies}
-use Rattle.desk.specs.Sheets.{blank, deskCalls, writtenOn, output, outputs, deskSheet}
+use Rattle.sheets.specs.Sheets.{blank, deskCalls, writtenOn, output, outputs, deskSheet}
 use Rattle.desk.specs.Pages.{atStart, nextLine, Lined, settled, deskLine, Filling, fillLines, fillPage, pieces, deskAfter}
 use Rattle.desk.specs.Claims.{DeskRule}
 use Rattle.desk.proofs.Blank.{on-line}

@@ -13,7 +13,7 @@ use Rattle.filing.specs.Plans.{putOn}
 use Rattle.desk.specs.declared.Desk.{Desk}
 use Rattle.desk.specs.declared.Filled.{Filled}
 use Rattle.calls.specs.Lines.{LineReply, lineReply}
-use Rattle.desk.specs.Sheets.{longestFrame}
+use Rattle.sheets.specs.Sheets.{longestFrame}
 
 -- Where a sheet begins: the roster of all zeros, position 0, line 1.
 unfoldable pub atStart : Desk

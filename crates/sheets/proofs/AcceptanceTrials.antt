@@ -21,8 +21,8 @@ use Rattle.filing.specs.Plans.{Filed, filed}
 use Rattle.filing.proofs.Results.{files}
 use Rattle.calls.specs.Lines.{Asked, malformed, change, plan, askedBy, asked}
 use Rattle.calls.specs.Calls.{Call, Line, changed, planned, readAs, onModel, replies}
-use Rattle.desk.specs.Sheets.{blank, deskCalls, writtenOn, output, outputs, deskSheet}
-use Rattle.desk.specs.Claims.{SheetTrials}
+use Rattle.sheets.specs.Sheets.{blank, deskCalls, writtenOn, output, outputs, deskSheet}
+use Rattle.sheets.specs.Claims.{SheetTrials}
 
 -- ---- A line's reply at the desk
 

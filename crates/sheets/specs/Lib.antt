@@ -1,0 +1,3 @@
+-- What the desk writes for a sheet. gmf's specs/Lib.antt says how to read these files.
+pub mod Sheets
+pub mod Claims
