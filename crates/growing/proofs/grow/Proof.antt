@@ -148,7 +148,7 @@ sub-top-level : tie.Need-sub-top-level Inv-raising μ-raising Inv-growing μ-gro
 sub-top-level c = c .before .pre .0 .0 .levels .0
 
 top-speed-requires : tie.Need-top-speed-requires Inv-raising μ-raising Inv-growing μ-growing
-top-speed-requires c κs = c .before .pre .0 .0
+top-speed-requires c κs = search needs
 
 cast-top-speed : tie.Need-cast-top-speed Inv-raising μ-raising Inv-growing μ-growing
 cast-top-speed c = search needs
