@@ -1,4 +1,5 @@
 pub mod Asking
+pub mod Standing
 pub mod Following
 pub mod Demand
 pub mod Results

@@ -1,10 +1,11 @@
 // Calls made as lines. The definitions are in specs/.
 ghost use mathlib.Core.Path.{_≡_};
 ghost use mathlib.Core.List.{List, []};
-ghost use Prim.Native.Nat.{ℕ, _≤_};
-ghost use Rattle.frame_kinds.specs.declared.Frame.the-variants.{Power};
+ghost use Prim.Native.Nat.{ℕ};
+ghost use lib.ListN.{take};
+ghost use Rattle.planner.specs.Model.{ReplaceTable};
 ghost use Rattle.refusals.specs.Numbers.{refusalNumber};
-ghost use Rattle.calls.specs.Lines.{askedBy, asked, wantsPlan, answeredOn, malformedNumber, replyAs, lineReply, passedOver};
+ghost use Rattle.calls.specs.Lines.{change, plan, askedBy, asked, wantsPlan, answeredOn, malformedNumber, replyAs, lineReply, passedOver};
 use filing::file_plan;
 use frame_kinds::Frame;
 use frame_reader::read_line;
@@ -22,7 +23,7 @@ pub struct LineAnswer {
 }
 
 // Why a malformed line is refused: a roster that breaks a rule is refused first.
-fn malformed(roster: Roster) -> Refusal
+pub fn malformed(roster: Roster) -> Refusal
     ensures { λ r. ⌜ refusalNumber r ≡ malformedNumber roster ⌝ }
 {
     let condition = roster.inspect();
@@ -46,15 +47,35 @@ fn changed(reply: Reply) -> LineAnswer
     }
 }
 
-// Makes the call that a frame stands for.
-fn call_frame(
+// Kind 02: as many of the numbers as the frame counts, or all of them.
+fn replace_table(roster: Roster, numbers: [u32; 32], count: usize) -> LineAnswer
+    ensures { λ r. ⌜ ((page : List ℕ) (place : ℕ) → answeredOn r page ≡ replyAs roster (change (ReplaceTable (take count numbers))) page place) ⌝ }
+{
+    let end = if count < 32 { count } else { 32 };
+    changed(roster.replace_table(&numbers[..end]))
+}
+
+// Kind 05: the roster stays.
+fn plan(roster: Roster, page: &mut [u8], place: usize) -> LineAnswer
+    ensures { λ r. ⌜ answeredOn r (now (page .exit)) ≡ replyAs roster plan (now (page .entry)) place ⌝ }
+{
+    let filing = file_plan(roster, page, place);
+    let answer = filing.answer;
+    LineAnswer {
+        answer,
+        roster,
+        count: filing.count,
+    }
+}
+
+// Makes the call that a frame stands for, on a roster and a lent page. The numbers are those of a power frame.
+pub fn call_frame(
     roster: Roster,
     frame: Frame,
     numbers: [u32; 32],
     page: &mut [u8],
     place: usize,
 ) -> LineAnswer
-    requires { ⌜ ((count : ℕ) → frame ≡ Power count → count ≤ 32) ⌝ }
     ensures { λ r. ⌜ answeredOn r (now (page .exit)) ≡ replyAs roster (askedBy frame numbers) (now (page .entry)) place ⌝ }
 {
     match frame {
@@ -74,20 +95,12 @@ fn call_frame(
             lowest as u64,
             step as u64,
         )),
-        Frame::Power { count } => changed(roster.replace_table(&numbers[..count])),
+        Frame::Power { count } => replace_table(roster, numbers, count),
         Frame::Admit { id, cost, period } => {
             changed(roster.admit(id as u64, cost as u64, period as u64))
         }
         Frame::Retire { id } => changed(roster.retire(id as u64)),
-        Frame::PlanWanted => {
-            let filing = file_plan(roster, page, place);
-            let answer = filing.answer;
-            LineAnswer {
-                answer,
-                roster,
-                count: filing.count,
-            }
-        }
+        Frame::PlanWanted => plan(roster, page, place),
     }
 }
 

@@ -6,6 +6,11 @@ use mathlib.Core.List.{List}
 use borrow.Author.Tests.{le-leb, lt-leb, lt-ltb, le-ltb, eq-eqb, ne-eqb}
 use lib.ListN.{length}
 use Rattle.hexadecimal.specs.Text.{lineOf}
+use Rattle.frame_kinds.specs.declared.Frame.{Frame}
+use Rattle.frame_kinds.specs.declared.Frame.the-variants as frame
+use Rattle.frame_kinds.specs.declared.Reading.{Reading}
+use Rattle.frame_kinds.specs.Frames.{readingOf}
+use Rattle.frame_reader.specs.Frames.{saidBy}
 use Rattle.frame_writer.specs.Frames.{refusalBytes}
 use Rattle.planner.specs.declared.Roster.{Roster}
 use Rattle.refusals.specs.declared.Answer.{Answer}
@@ -17,8 +22,8 @@ use Rattle.filing.specs.Plans.{putOn}
 use Rattle.filing.proofs.Results.{files}
 use Rattle.calls.specs.declared.LineAnswer.{LineAnswer}
 use Rattle.desk.specs.declared.Desk.{Desk}
-use Rattle.calls.specs.Lines.{Asked, malformed, change, plan, asked, LineReply, answeredOn, replyAs, lineReply}
-use Rattle.desk.specs.Pages.{settled, filledOn, fillTooLong}
+use Rattle.calls.specs.Lines.{Asked, malformed, change, plan, askedBy, asked, LineReply, answeredOn, malformedNumber, replyAs, lineReply}
+use Rattle.desk.specs.Pages.{settled, deskLine, filledOn, fillTooLong}
 
 -- ---- A sheet too long
 
@@ -85,8 +90,39 @@ reply-fits r malformed page place = inl refl
 reply-fits r (change call) page place = inl refl
 reply-fits r plan page place = files .reply-rule r page place .fits
 
-pub made-fits : (r : Roster) (line page : List ℕ) (place : ℕ) (made : LineAnswer) (exit : List ℕ) → answeredOn made exit ≡ lineReply r line page place
+pub made-fits : (r : Roster) (ask : Asked) (page : List ℕ) (place : ℕ) (made : LineAnswer) (exit : List ℕ) → answeredOn made exit ≡ replyAs r ask page place
     → (made .count ≡ 0) ⊎ (place + made .count ≤ length page)
-unfolding lineReply
-made-fits r line page place made exit e =
-    subst (λ (q : LineReply). (q .count ≡ 0) ⊎ (place + q .count ≤ length page)) (sym e) (reply-fits r (asked line) page place)
+made-fits r ask page place made exit e =
+    subst (λ (q : LineReply). (q .count ≡ 0) ⊎ (place + q .count ≤ length page)) (sym e) (reply-fits r ask page place)
+
+-- ---- A line as it was read
+
+module _ (text : List ℕ) (reading : Reading) (read : reading ≡ readingOf (saidBy text)) where
+  pub asked-as-read : askedBy (reading .frame) (reading .values) ≡ asked text
+  unfolding asked
+  asked-as-read = ap (λ (q : Reading). askedBy (q .frame) (q .values)) read
+
+  malformed-as-read : reading .frame ≡ frame.Malformed → malformed ≡ asked text
+  unfolding askedBy
+  malformed-as-read e = sym (ap (λ (f : Frame). askedBy f (reading .values)) e) ∙ asked-as-read
+
+  module _ (r : Roster) (line : ℕ) (page : List ℕ) (place : ℕ) where
+    -- A malformed line: the roster stays, and its refusal is settled.
+    pub lined-malformed : reading .frame ≡ frame.Malformed → (refusal : Refusal) → refusalNumber refusal ≡ malformedNumber r → (end : ℕ) (exit : List ℕ)
+        → record { roster = r; page = exit; end = end }
+        ≡ settled line place record { number = numberOf (Refused refusal); roster = r; page = page; count = 0 }
+        → record { roster = r; page = exit; end = end } ≡ deskLine r line text page place
+    unfolding deskLine lineReply replyAs
+    lined-malformed e refusal n end exit f =
+        f
+        ∙ ap (λ (k : ℕ). settled line place record { number = k; roster = r; page = page; count = 0 }) (number-rule .refused refusal ∙ n)
+        ∙ ap (λ (a : Asked). settled line place (replyAs r a page place)) (malformed-as-read e)
+
+    -- Any other: what its call replies is settled.
+    pub lined-called : (made : LineAnswer) (exit : List ℕ) → answeredOn made exit ≡ replyAs r (askedBy (reading .frame) (reading .values)) page place
+        → (end : ℕ) (exit′ : List ℕ)
+        → record { roster = made .roster; page = exit′; end = end }
+        ≡ settled line place record { number = numberOf (made .answer); roster = made .roster; page = exit; count = made .count }
+        → record { roster = made .roster; page = exit′; end = end } ≡ deskLine r line text page place
+    unfolding deskLine lineReply
+    lined-called made exit e end exit′ f = f ∙ ap (settled line place) (e ∙ ap (λ (a : Asked). replyAs r a page place) asked-as-read)

@@ -1,17 +1,22 @@
 // The desk's sheets, page by page. The definitions are in specs/.
 ghost use mathlib.Core.Path.{_≡_};
-ghost use mathlib.Core.Logic.{_⊎_};
+ghost use mathlib.Core.Bool.{true};
+ghost use mathlib.Core.Logic.{_⊎_, _↔_};
 ghost use Prim.Native.Nat.{_+_, _≤_};
 ghost use lib.ListN.{length, drop};
 ghost use Rattle.hexadecimal.specs.Text.{lineOf};
+ghost use Rattle.frame_kinds.specs.declared.Frame.the-variants.{Malformed};
 ghost use Rattle.frame_reader.specs.Lines.{linesOf};
 ghost use Rattle.frame_writer.specs.Frames.{refusalBytes};
 ghost use Rattle.planner.specs.declared.Roster as rosters;
 ghost use Rattle.refusals.specs.Numbers.{numberOf};
 ghost use Rattle.filing.specs.Plans.{putOn};
 ghost use Rattle.desk.specs.Pages.{atStart, settled, filledOn, fillLines, fillTooLong, fillPage};
-use calls::call_line;
+use calls::call_frame;
+use calls::malformed;
+use frame_kinds::Frame;
 use frame_reader::line_end;
+use frame_reader::read_line;
 use line_writer::Placing;
 use planner::Roster;
 use refusals::Answer;
@@ -59,11 +64,36 @@ fn settle(answer: Answer, count: usize, line: u32, page: &mut [u8], place: usize
     }
 }
 
-// Line after line from where the desk is, while the page has room for the longest frame.
+// Whether a line has no frame.
+fn is_malformed(frame: Frame) -> bool
+    ensures { λ r. ⌜ (r ≡ true) ↔ (frame ≡ Malformed) ⌝ }
+{
+    match frame {
+        Frame::Malformed => true,
+        Frame::Machine {
+            processors: _,
+            levels: _,
+            lowest: _,
+            step: _,
+        } => false,
+        Frame::Power { count: _ } => false,
+        Frame::Admit {
+            id: _,
+            cost: _,
+            period: _,
+        } => false,
+        Frame::Retire { id: _ } => false,
+        Frame::PlanWanted => false,
+    }
+}
+
+// Line after line from where the desk is, while the page has room for the longest frame. A malformed line is no call, and needs no second
+// look at the roster: by what it is refused stays the same from line to line.
 fn fill_lines(desk: Desk, sheet: &[u8], page: &mut [u8]) -> Filled
     ensures { λ r. ⌜ filledOn r (now (page .exit)) ≡ fillLines desk (linesOf (drop (desk .at) (now (sheet .entry)))) (now (page .entry)) 0 ⌝ }
 {
     let mut roster = desk.roster;
+    let refusal = malformed(roster);
     let mut at = desk.at;
     let mut line = desk.line;
     let mut end = 0;
@@ -75,11 +105,18 @@ fn fill_lines(desk: Desk, sheet: &[u8], page: &mut [u8]) -> Filled
             };
         }
         let next = line_end(sheet, at);
-        let made = call_line(roster, &sheet[at..next], page, end);
-        let answer = made.answer;
-        let after = made.roster;
-        roster = after;
-        end = settle(answer, made.count, line, page, end);
+        let reading = read_line(&sheet[at..next]);
+        let frame = reading.frame;
+        if is_malformed(frame) {
+            end = settle(Answer::Refused(refusal), 0, line, page, end);
+        } else {
+            let values = reading.values;
+            let made = call_frame(roster, frame, values, page, end);
+            let answer = made.answer;
+            let after = made.roster;
+            roster = after;
+            end = settle(answer, made.count, line, page, end);
+        }
         at = next;
         line = std::num::wrapping_add_u32(line, 1);
     }

@@ -4,7 +4,7 @@ use native.Mathlib.Nat.{zero-add}
 use native.Mathlib.Numerals.{add-one}
 use native.Mathlib.Decide.{ℕ-discrete}
 use native.Mathlib.Omega.{arith}
-use mathlib.Core.Path.{_≡_, sym, _∙_}
+use mathlib.Core.Path.{_≡_, refl, sym, _∙_}
 use mathlib.Core.Bool.{Bool, true, false, _&&_, and-true, and-false, and-assoc}
 use mathlib.Core.List.{List}
 use borrow.Author.Tests.{lt-leb, le-leb, lt-ltb, le-ltb, ne-eqb}
@@ -78,22 +78,33 @@ paired a b = go (ℕ-discrete a 0)
     go (yes e) = rw (e, zero-add) (two (ℕ-discrete b 0))
     go (no n) = rw (ne-eqb a 0 n) (ne-eqb (a + b * 65536) 0 (λ z. n (omega arith)))
 
--- Those from `start` on are unused exactly when nothing was seen and those from i on are.
-pub record Clearing (jobs : List Job) (start seen i : ℕ) : Type 0 where
-  pub whole : unused (drop start jobs) ≡ (eqb seen 0 && unused (drop i jobs))
+-- Those from `start` on are unused exactly when nothing was gathered and those from i on are.
+pub record Clearing (jobs : List Job) (start pairs periods i : ℕ) : Type 0 where
+  pub whole : unused (drop start jobs) ≡ (eqb pairs 0 && eqb periods 0 && unused (drop i jobs))
 
-pub clearing-starts : {jobs : List Job} {start seen i : ℕ} → seen ≡ 0 → i ≡ start → Clearing jobs start seen i
-clearing-starts p q = record { whole = rw (p, q) }
+pub clearing-starts : {jobs : List Job} {start pairs periods i : ℕ} → pairs ≡ 0 → periods ≡ 0 → i ≡ start → Clearing jobs start pairs periods i
+clearing-starts p q r = record { whole = rw (p, q, r) }
 
-module _ {jobs : List Job} {start seen i : ℕ} (l : Clearing jobs start seen i) where
-  pub clearing-ends : (none : ℕ) → length jobs ≤ i → none ≡ 0 → eqb seen none ≡ unused (drop start jobs)
+-- One place more: its pair and its period are each gathered with those before.
+one-more : (pairs periods a b p rest : Bool) → (pairs && periods && (a && b && p && rest)) ≡ (pairs && (a && b) && (periods && p) && rest)
+one-more false periods a b p rest = refl
+one-more true false false b p rest = refl
+one-more true false true false p rest = refl
+one-more true false true true p rest = refl
+one-more true true false b p rest = refl
+one-more true true true false p rest = refl
+one-more true true true true false rest = refl
+one-more true true true true true rest = refl
+
+module _ {jobs : List Job} {start pairs periods i : ℕ} (l : Clearing jobs start pairs periods i) where
+  pub clearing-ends : (none : ℕ) → length jobs ≤ i → none ≡ 0 → eqb (bitOr pairs periods) none ≡ unused (drop start jobs)
   unfolding unused
-  clearing-ends none h e = rw e (sym (l .whole ∙ rw (drop-of-length-le jobs {i = i} h, and-true)))
+  clearing-ends none h e = rw e (either-zero pairs periods ∙ sym (l .whole ∙ rw (drop-of-length-le jobs {i = i} h, and-true)))
 
   -- The place at i has id a, cost b and period p.
   pub clearing-turns : (a b p : ℕ) {i′ : ℕ} → i < length jobs
       → a ≡ getD jobs i noJob .id → b ≡ getD jobs i noJob .cost → p ≡ getD jobs i noJob .period → i′ ≡ i + 1
-      → Clearing jobs start (bitOr (bitOr seen (a + b * 65536)) p) i′
+      → Clearing jobs start (bitOr pairs (a + b * 65536)) (bitOr periods p) i′
   unfolding unused
   clearing-turns a b p here x y z q = record {
     whole = l .whole ∙ rw (
@@ -103,9 +114,9 @@ module _ {jobs : List Job} {start seen i : ℕ} (l : Clearing jobs start seen i)
       ← z,
       q,
       add-one,
-      either-zero (bitOr seen (a + b * 65536)) p,
-      either-zero seen (a + b * 65536),
+      either-zero periods p,
+      either-zero pairs (a + b * 65536),
       paired a b,
     )
-        (simp and-assoc);
+        (one-more (eqb pairs 0) (eqb periods 0) (eqb a 0) (eqb b 0) (eqb p 0) _);
   }

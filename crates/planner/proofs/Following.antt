@@ -1,11 +1,13 @@
 -- A call on the roster of a model that keeps the rules follows the model.
 use Prim.Native.Nat.{ℕ, _≤_}
 use native.Mathlib.Omega.{arith}
-use mathlib.Core.Path.{_≡_, refl, sym, ap, _∙_}
+use mathlib.Core.Path.{_≡_, refl, sym, ap, subst, _∙_}
+use mathlib.Core.Logic.{⊎-elim}
 use mathlib.Core.Bool.{Bool, true, false, false≢true}
 use mathlib.Core.List.{List}
 use borrow.Author.Tests.{eq-eqb, lt-leb}
 use lib.ListN.{length}
+use lib.Seq.{length-take-le}
 use Rattle.gmf.specs.declared.Machine.{Machine}
 use Rattle.gmf.specs.declared.Job.{Job}
 use Rattle.gmf.specs.Jobs.{hyperperiod, works}
@@ -13,10 +15,11 @@ use Rattle.gmf.specs.Claims.{Feasible, NonePasses}
 use Rattle.places.specs.Places.{insert}
 use Rattle.ranges.proofs.Results.{ranging}
 use Rattle.planner.specs.declared.Roster.{Roster}
-use Rattle.refusals.specs.declared.Refusal.the-variants.{NoPlan}
+use Rattle.refusals.specs.declared.Refusal.the-variants.{NoPlan, Damaged}
 use Rattle.planner.specs.Tests.{noPlan}
 use Rattle.planner.specs.Model.{
   Model,
+  Closed,
   Opened,
   Call,
   Admit,
@@ -29,14 +32,14 @@ use Rattle.planner.specs.Model.{
   admitted,
   step,
 }
-use Rattle.planner.specs.Roster.{rosterOf, replied, replyTo}
+use Rattle.planner.specs.Roster.{emptyRoster, modelOf, rosterOf, wellFormed, replied, replyTo}
 use Rattle.refusals.specs.Numbers.{refusalNumber, numberOf}
 use Rattle.planner.specs.Calls.{outcomeNumber, after}
-use Rattle.planner.specs.Claims.{Rules, Kept, OneCall, Offered, answerTo, TurnedDown, TurnsDown}
+use Rattle.planner.specs.Claims.{IsSound, Rules, Kept, OneCall, AnyRoster, Offered, answerTo, TurnedDown, TurnsDown}
 use Rattle.planner.proofs.TestRules.{none-passes, passes-none}
 use Rattle.planner.proofs.Passing.{long-not, plan-passes, passes-plan}
-use Rattle.planner.proofs.Forms.{kept-form, kept-model}
-use Rattle.planner.proofs.Replies.{reply-well}
+use Rattle.planner.proofs.Forms.{model-open, closed-roster, forms, kept-form, kept-model}
+use Rattle.planner.proofs.Replies.{reply-unformed, reply-well}
 use Rattle.planner.proofs.Steps.{Fair, stays, turns, fair-after, fair-step}
 
 -- ---- One call
@@ -81,6 +84,30 @@ one-call model kept = record {
   roster = λ call. reply-roster model call kept;
   kept = λ call. next-kept model call kept;
   never-7 = λ call. never (step model call) (fair-step model call kept);
+}
+
+-- ---- Any roster
+
+formed-kept : (r : Roster) → length (r .table) ≡ 32 → length (r .jobs) ≡ 64 → wellFormed r ≡ true → Kept (modelOf r)
+formed-kept r entries places e = ⊎-elim empty sound (forms r entries places .form .0 e)
+  where
+    empty : r ≡ emptyRoster → Kept (modelOf r)
+    empty same = subst Kept (sym (ap modelOf (same ∙ sym closed-roster) ∙ kept-model Closed tt)) tt
+
+    sound : IsSound r → Kept (modelOf r)
+    sound is = subst Kept (sym (model-open r (λ none. omega (arith, is .rules .machine-range .processors)))) (
+      is .rules,
+      omega (arith, length-take-le (r .held) (r .jobs) (omega (arith, is .places))),
+    )
+
+replied-back : (r : Roster) → replied r (refused Damaged) .roster ≡ r
+unfolding replied
+replied-back r = refl
+
+pub any-roster : AnyRoster
+any-roster = record {
+  formed = λ r entries places e. (formed-kept r entries places e, sym (forms r entries places .carries e));
+  damaged = λ r e call. ap (λ q. q .roster) (reply-unformed r call e) ∙ replied-back r;
 }
 
 -- ---- A job that only 17 could refuse

@@ -133,6 +133,10 @@ pub reply-damaged : (r : Roster) (call : Call) → inspected r ≡ condition.Dam
 unfolding replyTo
 reply-damaged r call e = rw (is-damaged r e, replyTo)
 
+pub reply-unformed : (r : Roster) (call : Call) → wellFormed r ≡ false → replyTo r call ≡ replied r (refused Damaged)
+unfolding replyTo
+reply-unformed r call e = rw (e, replyTo)
+
 pub reply-well : (r : Roster) (call : Call) → wellFormed r ≡ true → replyTo r call ≡ replied r (step (modelOf r) call)
 unfolding replyTo
 reply-well r call e = rw (e, replyTo)

@@ -4,7 +4,7 @@ use Rattle.planner.proofs.AcceptanceTrials.{call-trials, example-calls,
 use Rattle.planner.proofs.TestRules.{test-rule}
 use Rattle.planner.proofs.Forms.{closed-roster, forms}
 use Rattle.planner.proofs.Replies.{inspects}
-use Rattle.planner.proofs.Following.{one-call, turns-down}
+use Rattle.planner.proofs.Following.{one-call, any-roster, turns-down}
 
 pub planner : Planner
 planner = record {
@@ -13,6 +13,7 @@ planner = record {
   forms = forms;
   inspects = inspects;
   one-call = one-call;
+  any-roster = any-roster;
   turns-down = turns-down;
   call-trials = call-trials;
   example-calls = example-calls;

@@ -91,6 +91,13 @@ pub record CallRule (model : Model) : Type 0 where
 abbrev pub OneCall : Type 0
 OneCall = (model : Model) → Kept model → CallRule model
 
+-- ---- Any roster
+
+-- One that is well formed is the roster of a model as calls make it. Any other comes back from every call as it was.
+pub record AnyRoster : Type 0 where
+  pub formed : (r : Roster) → length (r .table) ≡ 32 → length (r .jobs) ≡ 64 → wellFormed r ≡ true → Kept (modelOf r) × (r ≡ rosterOf (modelOf r))
+  pub damaged : (r : Roster) → wellFormed r ≡ false → (call : Call) → replyTo r call .roster ≡ r
+
 -- ---- A job offered
 
 -- A job that is offered to a roster with these jobs: in range, under a new id, with a place free and the hyperperiod within its limit.
@@ -235,6 +242,7 @@ pub record Planner : Type 0 where
   pub forms : Forms
   pub inspects : Inspects
   pub one-call : OneCall
+  pub any-roster : AnyRoster
   pub turns-down : TurnsDown
   pub call-trials : CallTrials
   pub example-calls : ExampleCalls

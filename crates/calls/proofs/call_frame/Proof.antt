@@ -1,12 +1,9 @@
 -- `calls::call_frame` meets its contract.
-use native.Mathlib.Omega.{arith}
-use mathlib.Core.Path.{_≡_, sym, ap}
+use mathlib.Core.Path.{sym, ap, _∙_}
 use borrow.Author.Needs.{needs}
-use lib.ListN.{length}
-use lib.Seq.{length-take-le}
 use Rattle.frame_kinds.specs.declared.Frame.{Frame}
-use Rattle.calls.specs.Lines.{askedBy}
-use Rattle.calls.proofs.Asking.{as-malformed, as-change, as-plan}
+use Rattle.calls.specs.Lines.{askedBy, replyAs}
+use Rattle.calls.proofs.Asking.{as-malformed, as-change}
 use Rattle.calls.proofs.call_frame.Statement.{statement}
 use Rattle.calls.proofs.call_frame.Tie as tie
 
@@ -40,27 +37,8 @@ changed-requires c κs = search needs
 enum-known-frame-2 : tie.Need-enum-known-frame-2
 enum-known-frame-2 c = search needs
 
-array-share-prefix-numbers : tie.Need-array-share-prefix-numbers
-array-share-prefix-numbers c =
-    let f = c .before in
-    let s = f .before .before .before in
-    let few = s .pre _ (f .frame2 .given .1) in
-    let all : length (s .args .t3) ≡ 32 = search needs in
-    omega arith
-
-slice-aggregate-replace-table : tie.Need-slice-aggregate-replace-table
-slice-aggregate-replace-table c =
-    let f = c .before .before in
-    let s = f .before .before .before in
-    let few = s .pre _ (f .frame2 .given .1) in
-    let all : length (s .args .t3) ≡ 32 = search needs in
-    sym (length-take-le _ (s .args .t3) (omega arith))
-
 replace-table-requires : tie.Need-replace-table-requires
 replace-table-requires c κs = search needs
-
-changed-requires-2 : tie.Need-changed-requires-2
-changed-requires-2 c κs = search needs
 
 enum-known-frame-3 : tie.Need-enum-known-frame-3
 enum-known-frame-3 c = search needs
@@ -77,8 +55,8 @@ cast-admit-3 c = search needs
 admit-requires : tie.Need-admit-requires
 admit-requires c κs = search needs
 
-changed-requires-3 : tie.Need-changed-requires-3
-changed-requires-3 c κs = search needs
+changed-requires-2 : tie.Need-changed-requires-2
+changed-requires-2 c κs = search needs
 
 enum-known-frame-4 : tie.Need-enum-known-frame-4
 enum-known-frame-4 c = search needs
@@ -89,14 +67,14 @@ cast-retire c = search needs
 retire-requires : tie.Need-retire-requires
 retire-requires c κs = search needs
 
-changed-requires-4 : tie.Need-changed-requires-4
-changed-requires-4 c κs = search needs
+changed-requires-3 : tie.Need-changed-requires-3
+changed-requires-3 c κs = search needs
 
 enum-told-2 : tie.Need-enum-told-2
 enum-told-2 c = search needs
 
-file-plan-requires : tie.Need-file-plan-requires
-file-plan-requires c κs = search needs
+plan-requires : tie.Need-plan-requires
+plan-requires c κs = search needs
 
 returns : tie.Need-returns
 unfolding askedBy
@@ -104,7 +82,7 @@ returns c =
     let t = c .before in
     let s = t .before .before .before in
     as-malformed (s .args .roster) _ (s .args .page .now) (s .args .place) _ (c .malformed .ensures)
-    (ap (λ (q : Frame). askedBy q (s .args .t3)) (t .enum-told .given .1))
+    (ap (λ (q : Frame). askedBy q (s .args .numbers)) (t .enum-told .given .1))
 
 returns-2 : tie.Need-returns-2
 unfolding askedBy
@@ -113,16 +91,15 @@ returns-2 c =
     let f = m .before .before in
     let s = f .before .before .before in
     as-change (s .args .roster) _ (s .args .page .now) (s .args .place) _ _ _ (c .changed .ensures) (m .open-machine .ensures)
-    (ap (λ (q : Frame). askedBy q (s .args .t3)) (f .frame .given .1))
+    (ap (λ (q : Frame). askedBy q (s .args .numbers)) (f .frame .given .1))
 
 returns-3 : tie.Need-returns-3
 unfolding askedBy
 returns-3 c =
-    let m = c .before in
-    let f = m .before .before .before in
+    let f = c .before .before in
     let s = f .before .before .before in
-    as-change (s .args .roster) _ (s .args .page .now) (s .args .place) _ _ _ (c .changed2 .ensures) (m .replace-table .ensures)
-    (ap (λ (q : Frame). askedBy q (s .args .t3)) (f .frame2 .given .1))
+    c .replace-table .ensures (s .args .page .now) (s .args .place)
+    ∙ ap (λ (q : Frame). replyAs (s .args .roster) (askedBy q (s .args .numbers)) (s .args .page .now) (s .args .place)) (sym (f .frame2 .given .1))
 
 returns-4 : tie.Need-returns-4
 unfolding askedBy
@@ -130,8 +107,8 @@ returns-4 c =
     let m = c .before in
     let f = m .before .before in
     let s = f .before .before .before in
-    as-change (s .args .roster) _ (s .args .page .now) (s .args .place) _ _ _ (c .changed3 .ensures) (m .admit .ensures)
-    (ap (λ (q : Frame). askedBy q (s .args .t3)) (f .frame3 .given .1))
+    as-change (s .args .roster) _ (s .args .page .now) (s .args .place) _ _ _ (c .changed2 .ensures) (m .admit .ensures)
+    (ap (λ (q : Frame). askedBy q (s .args .numbers)) (f .frame3 .given .1))
 
 returns-5 : tie.Need-returns-5
 unfolding askedBy
@@ -139,8 +116,8 @@ returns-5 c =
     let m = c .before in
     let f = m .before .before in
     let s = f .before .before .before in
-    as-change (s .args .roster) _ (s .args .page .now) (s .args .place) _ _ _ (c .changed4 .ensures) (m .retire .ensures)
-    (ap (λ (q : Frame). askedBy q (s .args .t3)) (f .frame4 .given .1))
+    as-change (s .args .roster) _ (s .args .page .now) (s .args .place) _ _ _ (c .changed3 .ensures) (m .retire .ensures)
+    (ap (λ (q : Frame). askedBy q (s .args .numbers)) (f .frame4 .given .1))
 
 same-length : tie.Need-same-length
 same-length c = search needs
@@ -148,11 +125,11 @@ same-length c = search needs
 returns-6 : tie.Need-returns-6
 unfolding askedBy
 returns-6 c =
-    let f = c .before .before in
-    let t = f .before .before in
+    let p = c .before .before in
+    let t = p .before .before in
     let s = t .before .before .before in
-    as-plan (s .args .roster) _ (s .args .page .now) (s .args .place) _ _ (f .file-plan .ensures)
-    (ap (λ (q : Frame). askedBy q (s .args .t3)) (t .enum-told2 .given .1))
+    p .plan .ensures
+    ∙ ap (λ (q : Frame). replyAs (s .args .roster) (askedBy q (s .args .numbers)) (s .args .page .now) (s .args .place)) (sym (t .enum-told2 .given .1))
 
 pub call-frame-spec : {M : Type 1} → statement M
 call-frame-spec =
@@ -168,22 +145,19 @@ call-frame-spec =
     open-machine-requires
     changed-requires
     enum-known-frame-2
-    array-share-prefix-numbers
-    slice-aggregate-replace-table
     replace-table-requires
-    changed-requires-2
     enum-known-frame-3
     cast-admit
     cast-admit-2
     cast-admit-3
     admit-requires
-    changed-requires-3
+    changed-requires-2
     enum-known-frame-4
     cast-retire
     retire-requires
-    changed-requires-4
+    changed-requires-3
     enum-told-2
-    file-plan-requires
+    plan-requires
     returns
     returns-2
     returns-3

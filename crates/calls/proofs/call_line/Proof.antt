@@ -1,8 +1,7 @@
 -- `calls::call_line` meets its contract.
-use mathlib.Core.Path.{sym, ap, _∙_}
+use mathlib.Core.Path.{ap, _∙_}
 use borrow.Author.Needs.{needs}
 use Rattle.frame_kinds.specs.declared.Reading.{Reading}
-use Rattle.frame_reader.proofs.Results.{reads}
 use Rattle.calls.specs.Lines.{askedBy, asked, replyAs, lineReply}
 use Rattle.calls.proofs.call_line.Statement.{statement}
 use Rattle.calls.proofs.call_line.Tie as tie
@@ -11,10 +10,7 @@ read-line-requires : tie.Need-read-line-requires
 read-line-requires c κs = search needs
 
 call-frame-requires : tie.Need-call-frame-requires
-call-frame-requires c κs =
-    let r = c .before .before in
-    λ count e.
-    reads .count-rule _ count (ap (λ (q : Reading). q .frame) (sym (r .read-line .ensures .0)) ∙ e) .1
+call-frame-requires c κs = search needs
 
 same-length : tie.Need-same-length
 same-length c = search needs

@@ -2,7 +2,6 @@
 use mathlib.Core.Path.{_≡_, refl, sym, ap, _∙_}
 use borrow.Author.Needs.{needs}
 use Rattle.frame_kinds.specs.declared.Reading.{Reading}
-use Rattle.frame_reader.proofs.Results.{reads}
 use Rattle.calls.specs.Lines.{askedBy, asked, wantsPlan, replyAs}
 use Rattle.calls.proofs.Asking.{line-passed, line-called}
 use Rattle.calls.proofs.host_line.Statement.{statement}
@@ -30,10 +29,7 @@ slice-aggregate-call-frame : tie.Need-slice-aggregate-call-frame
 slice-aggregate-call-frame c = search needs
 
 call-frame-requires : tie.Need-call-frame-requires
-call-frame-requires c κs =
-    let r = c .before .before .before .before in
-    λ count e.
-    reads .count-rule _ count (ap (λ (q : Reading). q .frame) (sym (r .read-line .ensures .0)) ∙ e) .1
+call-frame-requires c κs = search needs
 
 returns-2 : tie.Need-returns-2
 unfolding asked

@@ -9,16 +9,16 @@ use Rattle.place_checks.proofs.unused_from.Statement.{statement}
 use Rattle.place_checks.proofs.unused_from.Tie as tie
 
 abbrev Inv-loop : tie.InvT-loop
-Inv-loop start jobs seen₀ i₀ seen i = Clearing jobs start seen i
+Inv-loop start jobs pairs₀ periods₀ i₀ pairs periods i = Clearing jobs start pairs periods i
 
 abbrev μ-loop : tie.MeasureT-loop
-μ-loop start jobs seen₀ i₀ seen i = 64 - i
+μ-loop start jobs pairs₀ periods₀ i₀ pairs periods i = 64 - i
 
 long : (c : tie.Start Inv-loop μ-loop) → length (c .args .t1) ≡ 64
 long c = search needs
 
 loop-holds : tie.Need-loop-holds Inv-loop μ-loop
-loop-holds c = clearing-starts (omega arith) (omega arith)
+loop-holds c = clearing-starts (omega arith) (omega arith) (omega arith)
 
 mul-place : tie.Need-mul-place Inv-loop μ-loop
 mul-place c = omega arith
@@ -38,8 +38,8 @@ mul-pair c = search needs
 add-pair : tie.Need-add-pair Inv-loop μ-loop
 add-pair c = search needs
 
-cast-seen : tie.Need-cast-seen Inv-loop μ-loop
-cast-seen c = search needs
+cast-periods : tie.Need-cast-periods Inv-loop μ-loop
+cast-periods c = search needs
 
 add-i : tie.Need-add-i Inv-loop μ-loop
 add-i c = omega arith
@@ -68,7 +68,7 @@ unused-from-spec =
     cast-pair-2
     mul-pair
     add-pair
-    cast-seen
+    cast-periods
     add-i
     loop-less
     loop-again

@@ -1,0 +1,16 @@
+//! The product's call for C. This is the only module with unsafe code.
+
+extern "C" {
+    fn planner_plan_sheet(
+        sheet: *const u8,
+        sheet_length: usize,
+        page: *mut u8,
+        page_length: usize,
+        place: usize,
+    ) -> u32;
+}
+
+pub fn plan_sheet(sheet: &[u8], page: &mut [u8], place: usize) -> u32 {
+    // SAFETY: both pointers come from live slices with these lengths, and the borrows rule out an overlap.
+    unsafe { planner_plan_sheet(sheet.as_ptr(), sheet.len(), page.as_mut_ptr(), page.len(), place) }
+}

@@ -1,0 +1,51 @@
+//! Whole sheets that several cases share.
+
+use crate::draft::{Draft, Job, Machine};
+use crate::random::Random;
+use crate::rosters::{ids, small_job};
+
+/// A machine, its jobs, and as many plans wanted as the length has room for.
+pub fn plans(machine: Machine, jobs: &[Job], length: usize) -> Vec<u8> {
+    let mut draft = Draft::on(machine);
+    draft.admit_all(jobs);
+    draft.fill(length, Draft::plan);
+    draft.bytes()
+}
+
+/// A machine and its jobs.
+pub fn roster(machine: Machine, jobs: &[Job]) -> Vec<u8> {
+    let mut draft = Draft::on(machine);
+    draft.admit_all(jobs);
+    draft.bytes()
+}
+
+/// So many small jobs; then one is retired and another admitted, again and again, and at the end a plan is wanted.
+pub fn churn(machine: Machine, held: usize, length: usize, random: &mut Random) -> Vec<u8> {
+    let mut draft = Draft::on(machine);
+    let mut held = ids(held, random);
+    for &id in &held {
+        draft.admit(small_job(id, random));
+    }
+    let plan = "05\n".len();
+    draft.fill(length - plan, |draft| {
+        let place = random.index(held.len());
+        draft.retire(held[place]);
+        held[place] = loop {
+            let id = random.between(1, 65_535);
+            if !held.contains(&id) {
+                break id;
+            }
+        };
+        draft.admit(small_job(held[place], random));
+    });
+    draft.plan();
+    draft.bytes()
+}
+
+/// A machine and its jobs, and after them lines that leave the roster as it is.
+pub fn refused(machine: Machine, jobs: &[Job], length: usize, line: impl FnMut(&mut Draft)) -> Vec<u8> {
+    let mut draft = Draft::on(machine);
+    draft.admit_all(jobs);
+    draft.fill(length, line);
+    draft.bytes()
+}

@@ -1,0 +1,23 @@
+//! The yardstick: a planner written for speed in the straightforward way of Rust. The product's times are measured
+//! against it.
+//!
+//! It does what the specification says of sheets, as the desk program and as the host's call. It does not look for
+//! refusal 7: its roster is its own, and nobody else can damage it.
+
+#![forbid(unsafe_code)]
+
+pub mod desk;
+mod frames;
+mod growing;
+mod hexadecimal;
+pub mod host;
+mod load;
+mod machine;
+mod plan;
+mod refusal;
+mod roster;
+
+/// A sheet longer than this is refused whole.
+pub const LONGEST_SHEET: usize = 65_536;
+/// A plan for 32 processors with its 0A.
+pub const LONGEST_FRAME: usize = 89;
