@@ -1,7 +1,7 @@
 -- By what number a malformed line is refused on a roster stays the same from line to line.
 use Prim.Native.Nat.{ℕ}
-use mathlib.Core.Path.{_≡_, refl, sym, ap, subst, _∙_}
-use mathlib.Core.Bool.{Bool, true, false, false≢true}
+use mathlib.Core.Path.{_≡_, refl, sym, ap, _∙_}
+use mathlib.Core.Bool.{Bool, true, false}
 use mathlib.Core.List.{List}
 use lib.ListN.{length}
 use Rattle.planner.specs.declared.Roster.{Roster}
@@ -21,7 +21,7 @@ pub stands : (r : Roster) → length (r .table) ≡ 32 → length (r .jobs) ≡ 
 stands r entries places = go (wellFormed r) refl
   where
     go : (b : Bool) → wellFormed r ≡ b → Stands r
-    go true e = let kept = planner .any-roster .formed r entries places e in carries (modelOf r) (kept .0) (kept .1)
+    go true e = carries (modelOf r) (planner .any-roster .formed r entries places e) (sym (planner .forms r entries places .carries e))
     go false e = damaged e
 
 -- After a call it still stands so, and is as well formed as before.

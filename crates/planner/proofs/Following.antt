@@ -106,7 +106,7 @@ replied-back r = refl
 
 pub any-roster : AnyRoster
 any-roster = record {
-  formed = λ r entries places e. (formed-kept r entries places e, sym (forms r entries places .carries e));
+  formed = formed-kept;
   damaged = λ r e call. ap (λ q. q .roster) (reply-unformed r call e) ∙ replied-back r;
 }
 

@@ -93,9 +93,9 @@ OneCall = (model : Model) → Kept model → CallRule model
 
 -- ---- Any roster
 
--- One that is well formed is the roster of a model as calls make it. Any other comes back from every call as it was.
+-- One that is well formed carries a model as calls make it. Any other comes back from every call as it was.
 pub record AnyRoster : Type 0 where
-  pub formed : (r : Roster) → length (r .table) ≡ 32 → length (r .jobs) ≡ 64 → wellFormed r ≡ true → Kept (modelOf r) × (r ≡ rosterOf (modelOf r))
+  pub formed : (r : Roster) → length (r .table) ≡ 32 → length (r .jobs) ≡ 64 → wellFormed r ≡ true → Kept (modelOf r)
   pub damaged : (r : Roster) → wellFormed r ≡ false → (call : Call) → replyTo r call .roster ≡ r
 
 -- ---- A job offered
