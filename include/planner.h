@@ -7,7 +7,7 @@
  * For every call:
  *   - Sheet and page must not overlap. A pointer may be NULL where its length is 0.
  *   - It ends on every input. It uses no heap and keeps no state, so several threads may call at once.
- *   - It takes at most PLANNER_STACK bytes of stack: 6.5 KiB were measured, and less than 3 KiB more where the loader has yet to find memcpy.
+ *   - It takes at most PLANNER_STACK bytes of stack: 6.7 KiB were measured, and less than 3 KiB more where the loader has yet to find memcpy.
  *
  * To link: cc program.c libhost.a
  */
@@ -42,7 +42,7 @@ extern "C" {
 #define PLANNER_HYPERPERIOD_TOO_LONG 16 /* the least common multiple of the periods would exceed 16,777,216 */
 #define PLANNER_NO_PLAN 17              /* no plan passes with the new job */
 
-/* In bytes. The longest frame is a plan for 32 processors: 44 bytes, so 88 digits and 0A. */
+/* In bytes. The longest frame of these calls is a plan for 32 processors: 44 bytes, so 88 digits and 0A. */
 #define PLANNER_LONGEST_SHEET 65536
 #define PLANNER_LONGEST_FRAME 89
 #define PLANNER_REFUSAL_FRAME 13
@@ -50,10 +50,11 @@ extern "C" {
 
 /*
  * Plans for the jobs that a sheet leaves on the roster. A sheet longer than PLANNER_LONGEST_SHEET gets PLANNER_MALFORMED. Otherwise
- * the lines are read in order from an empty roster with no machine; well-formed plan-wanted lines (05) are passed over, and the first
- * refused line ends the call with its number. Then PLANNER_NO_MACHINE where no machine is open at the end, then PLANNER_NO_ROOM.
- * Otherwise it returns PLANNER_DONE, and the plan frame (81) stands in the page from the place on; no other byte of the page changes.
- * On any other reply no byte of the page changes. The frame has 25 bytes and two for each processor, the last of them 0A.
+ * the lines are read in order from an empty roster with no machine; well-formed plan-wanted and slack-wanted lines (05, 07) are
+ * passed over, and the first refused line ends the call with its number. Then PLANNER_NO_MACHINE where no machine is open at the end,
+ * then PLANNER_NO_ROOM. Otherwise it returns PLANNER_DONE, and the plan frame (81) stands in the page from the place on; no other
+ * byte of the page changes. On any other reply no byte of the page changes. The frame has 25 bytes and two for each processor, the
+ * last of them 0A.
  */
 uint32_t planner_plan_sheet(const uint8_t *sheet, size_t sheet_length, uint8_t *page, size_t page_length, size_t place);
 

@@ -116,6 +116,10 @@ static const struct trial trials[] = {
     {"the example, without its refused job", QUARTERS FIVE_JOBS, 0, 0, FIVE_JOBS_PLAN},
     {"the example", QUARTERS FIVE_JOBS "030006000B000A\n05\n", PLANNER_NO_PLAN, 7, "8E0000000711\n"},
     {"plans wanted", "05\n" QUARTERS "05\n" FIVE_JOBS "05\n05\n", 0, 0, FIVE_JOBS_PLAN},
+    {"slack wanted", "07\n" QUARTERS "07\n" FIVE_JOBS "07\n07\n", 0, 0, FIVE_JOBS_PLAN},
+    /* With 9/10 the works are 40 of 40. */
+    {"slack wanted while a job comes and goes", "05\n07\n" QUARTERS FIVE_JOBS "07\n0300060009000A\n07\n040006\n07\n05\n", 0, 0,
+     FIVE_JOBS_PLAN},
     {"lower case", "01040400010001\n030001000a000a\n0300020009000A\n0300030006000a\n0300040005000a\n0300050001000a\n", 0, 0,
      FIVE_JOBS_PLAN},
     {"no jobs", QUARTERS, 0, 0, NO_JOBS_PLAN},
@@ -138,6 +142,7 @@ static const struct trial trials[] = {
 
     {"no lines", "", PLANNER_NO_MACHINE, 0, NULL},
     {"only plans wanted", "05\n05\n", PLANNER_NO_MACHINE, 0, NULL},
+    {"only slack wanted", "07\n07\n", PLANNER_NO_MACHINE, 0, NULL},
 
     {"no processor", "01000400010001\n", PLANNER_PROCESSORS, 1, "8E0000000101\n"},
     {"33 processors", "05\n01210400010001\n", PLANNER_PROCESSORS, 2, "8E0000000201\n"},
@@ -157,7 +162,9 @@ static const struct trial trials[] = {
     {"a wrong digit", QUARTERS "0G\n", PLANNER_MALFORMED, 2, "8E0000000205\n"},
     {"an odd number of digits", QUARTERS "050\n", PLANNER_MALFORMED, 2, "8E0000000205\n"},
     {"an unknown kind", QUARTERS "06\n", PLANNER_MALFORMED, 2, "8E0000000205\n"},
+    {"an unknown kind after slack wanted", QUARTERS "07\n08\n", PLANNER_MALFORMED, 3, "8E0000000305\n"},
     {"an output frame read", QUARTERS NO_JOBS_PLAN, PLANNER_MALFORMED, 2, "8E0000000205\n"},
+    {"a slack frame read", QUARTERS "83000000000000000002\n", PLANNER_MALFORMED, 2, "8E0000000205\n"},
     {"a machine, too short", "010404000100\n", PLANNER_MALFORMED, 1, "8E0000000105\n"},
     {"a job, too long", QUARTERS "030001000A000A00\n", PLANNER_MALFORMED, 2, "8E0000000205\n"},
     {"a job to retire, too short", QUARTERS "0400\n", PLANNER_MALFORMED, 2, "8E0000000205\n"},
@@ -165,12 +172,19 @@ static const struct trial trials[] = {
     {"a plan wanted, too long", QUARTERS "0500\n", PLANNER_MALFORMED, 2, "8E0000000205\n"},
     {"a plan wanted, closed by 0D 0A", QUARTERS "05\r\n", PLANNER_MALFORMED, 2, "8E0000000205\n"},
     {"a plan wanted, unclosed", QUARTERS FIVE_JOBS "05", PLANNER_MALFORMED, 7, "8E0000000705\n"},
+    {"slack wanted, too long", QUARTERS "0700\n", PLANNER_MALFORMED, 2, "8E0000000205\n"},
+    {"slack wanted, too long, before the machine", "07\n05\n0707\n" QUARTERS, PLANNER_MALFORMED, 3, "8E0000000305\n"},
+    {"slack wanted, an odd number of digits", QUARTERS "07\n070\n", PLANNER_MALFORMED, 3, "8E0000000305\n"},
+    {"slack wanted, closed by 0D 0A", QUARTERS "07\r\n", PLANNER_MALFORMED, 2, "8E0000000205\n"},
+    {"slack wanted, unclosed", QUARTERS FIVE_JOBS "07\n07", PLANNER_MALFORMED, 8, "8E0000000805\n"},
+    {"slack wanted, unclosed, and nothing else", "07", PLANNER_MALFORMED, 1, "8E0000000105\n"},
     {"a job, unclosed", QUARTERS "030001000A000A", PLANNER_MALFORMED, 2, "8E0000000205\n"},
     {"a machine, unclosed", "01040400010001", PLANNER_MALFORMED, 1, "8E0000000105\n"},
 
     {"a table before the machine", "0200000001\n", PLANNER_NO_MACHINE, 1, "8E000000010B\n"},
     {"a job before the machine", "030001000A000A\n" QUARTERS, PLANNER_NO_MACHINE, 1, "8E000000010B\n"},
     {"a job to retire before the machine", "05\n05\n040001\n", PLANNER_NO_MACHINE, 3, "8E000000030B\n"},
+    {"a job before the machine, after slack wanted", "07\n05\n07\n030001000A000A\n", PLANNER_NO_MACHINE, 4, "8E000000040B\n"},
     {"a second machine", QUARTERS QUARTERS, PLANNER_MACHINE_OPEN, 2, "8E000000020C\n"},
     {"an id twice", QUARTERS FIVE_JOBS "03000300010001\n", PLANNER_ID_HELD, 7, "8E000000070D\n"},
     {"an id to retire that is not there", QUARTERS FIVE_JOBS "040006\n", PLANNER_ID_NOT_HELD, 7, "8E000000070E\n"},
@@ -180,6 +194,8 @@ static const struct trial trials[] = {
     {"periods 4096 and 4097, cost 4098", QUARTERS "03000100011000\n03000210021001\n", PLANNER_HYPERPERIOD_TOO_LONG, 3,
      "8E0000000310\n"},
     {"cost above period", QUARTERS "030001000B000A\n", PLANNER_NO_PLAN, 2, "8E0000000211\n"},
+    {"the example, with slack wanted", "07\n" QUARTERS "07\n" FIVE_JOBS "05\n07\n030006000B000A\n07\n", PLANNER_NO_PLAN, 11,
+     "8E0000000B11\n"},
     {"more work than the processors have", "01010400010001\n03000100010002\n03000200010002\n03000300010002\n", PLANNER_NO_PLAN, 4,
      "8E0000000411\n"},
     {"only the first refused line", QUARTERS "040001\n" QUARTERS "\n", PLANNER_ID_NOT_HELD, 2, "8E000000020E\n"},
@@ -228,10 +244,10 @@ static void long_sheets(void)
 {
     static char sheet[PLANNER_LONGEST_SHEET + 1];
 
-    /* A machine, a job that comes and goes, and 21,833 plans wanted: 15 + 15 + 7 + 65,499 bytes. */
+    /* A machine, a job that comes and goes, and 21,833 lines by turns of slack and of a plan wanted: 15 + 15 + 7 + 65,499 bytes. */
     size_t length = (size_t)snprintf(sheet, sizeof sheet, QUARTERS "030001000A000A\n040001\n");
     for (; length < PLANNER_LONGEST_SHEET; length += 3)
-        memcpy(sheet + length, "05\n", 3);
+        memcpy(sheet + length, length % 2 ? "07\n" : "05\n", 3);
     check(length == PLANNER_LONGEST_SHEET, "the longest sheet is %zu bytes", length);
     try_sheet("65,536 bytes", sheet, length, PLANNER_DONE, 0, NO_JOBS_PLAN);
     sheet[length] = '\n';
@@ -283,13 +299,15 @@ static void refused_on_pages(const char *name, const char *text, uint32_t reply)
 
 static void pages(void)
 {
-    plans_on_pages("pages, 4 processors", QUARTERS FIVE_JOBS, FIVE_JOBS_PLAN);
+    /* The slack frame, 75 bytes, would need more room than the plan. */
+    plans_on_pages("pages, 4 processors", QUARTERS FIVE_JOBS "07\n", FIVE_JOBS_PLAN);
     plans_on_pages("pages, 1 processor", "01010400010001\n", "81000000000100000001000000\n");
     plans_on_pages("pages, 32 processors", "01202000080008\n",
                    "810000000001000040000000"
                    "0000000000000000000000000000000000000000000000000000000000000000\n");
     refused_on_pages("pages, no lines", "", PLANNER_NO_MACHINE);
     refused_on_pages("pages, a plan wanted", "05\n", PLANNER_NO_MACHINE);
+    refused_on_pages("pages, slack wanted", "07\n", PLANNER_NO_MACHINE);
     refused_on_pages("pages, the example", QUARTERS FIVE_JOBS "030006000B000A\n05\n", PLANNER_NO_PLAN);
 }
 

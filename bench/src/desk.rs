@@ -5,6 +5,7 @@ use crate::hexadecimal;
 use crate::plan::Plan;
 use crate::refusal::Refusal;
 use crate::roster::Roster;
+use crate::slack::Slack;
 use crate::LONGEST_SHEET;
 use std::io::{self, Write};
 
@@ -43,6 +44,11 @@ impl<W: Write> Output<W> {
         Ok(())
     }
 
+    fn file_slack(&mut self, slack: &Slack) -> io::Result<()> {
+        slack.write(self.room(slack.frame_length())?);
+        Ok(())
+    }
+
     fn file_refusal(&mut self, line: u32, refusal: Refusal) -> io::Result<()> {
         let mut frame = [0x8E, 0, 0, 0, 0, refusal as u8];
         frame[1..5].copy_from_slice(&line.to_be_bytes());
@@ -53,7 +59,7 @@ impl<W: Write> Output<W> {
     }
 }
 
-/// Reads a sheet and writes a frame for each plan wanted and each refused line.
+/// Reads a sheet and writes a frame for each plan or slack wanted and each refused line.
 pub fn run(sheet: &[u8], sink: impl Write) -> io::Result<()> {
     let mut output = Output::new(sink);
     if sheet.len() > LONGEST_SHEET {
@@ -64,12 +70,12 @@ pub fn run(sheet: &[u8], sink: impl Write) -> io::Result<()> {
     for (line, number) in lines(sheet).zip(1..) {
         let done = match read(line) {
             None => Err(Refusal::Malformed),
-            Some(Frame::PlanWanted) => roster.plan().map(Some),
-            Some(frame) => roster.change(frame).map(|()| None),
+            Some(Frame::PlanWanted) => roster.plan().map(|plan| output.file_plan(&plan)),
+            Some(Frame::SlackWanted) => roster.slack().map(|slack| output.file_slack(&slack)),
+            Some(frame) => roster.change(frame).map(Ok),
         };
         match done {
-            Ok(None) => {}
-            Ok(Some(plan)) => output.file_plan(&plan)?,
+            Ok(written) => written?,
             Err(refusal) => output.file_refusal(number, refusal)?,
         }
     }

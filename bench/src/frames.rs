@@ -34,6 +34,7 @@ pub enum Frame {
     Admit(Job),
     Retire(u16),
     PlanWanted,
+    SlackWanted,
 }
 
 /// The lines of a sheet, each with its 0A; the last one may lack it.
@@ -65,6 +66,7 @@ pub fn read(line: &[u8]) -> Option<Frame> {
         b'3' => admit(digits),
         b'4' => Some(Frame::Retire(number::<4>(digits.try_into().ok()?)? as u16)),
         b'5' => digits.is_empty().then_some(Frame::PlanWanted),
+        b'7' => digits.is_empty().then_some(Frame::SlackWanted),
         _ => None,
     }
 }

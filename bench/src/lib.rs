@@ -16,8 +16,9 @@ mod machine;
 mod plan;
 mod refusal;
 mod roster;
+mod slack;
 
 /// A sheet longer than this is refused whole.
 pub const LONGEST_SHEET: usize = 65_536;
-/// A plan for 32 processors with its 0A.
+/// A plan for 32 processors with its 0A: the longest frame that the host's call writes.
 pub const LONGEST_FRAME: usize = 89;

@@ -30,7 +30,7 @@ impl Machine {
         Ok(machine)
     }
 
-    fn speed(&self, level: usize) -> u32 {
+    pub fn speed(&self, level: usize) -> u32 {
         self.lowest + level as u32 * self.step
     }
 

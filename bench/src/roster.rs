@@ -6,6 +6,7 @@ use crate::load::{works_of, Job, Load, MOST_JOBS};
 use crate::machine::Machine;
 use crate::plan::Plan;
 use crate::refusal::Refusal;
+use crate::slack::Slack;
 
 /// What an open machine has: its power table, and its jobs by rising id.
 struct Open {
@@ -20,19 +21,24 @@ pub struct Roster {
 }
 
 impl Roster {
-    /// Makes the change that a frame asks for; a plan wanted asks for none.
+    /// Makes the change that a frame asks for; a plan or its slack wanted asks for none.
     pub fn change(&mut self, frame: Frame) -> Result<(), Refusal> {
         match frame {
             Frame::Machine(numbers) => self.open_machine(numbers),
             Frame::Power(values) => self.open_mut()?.replace_table(values.as_slice()),
             Frame::Admit(job) => self.open_mut()?.admit(job),
             Frame::Retire(id) => self.open_mut()?.retire(id),
-            Frame::PlanWanted => Ok(()),
+            Frame::PlanWanted | Frame::SlackWanted => Ok(()),
         }
     }
 
     pub fn plan(&self) -> Result<Plan, Refusal> {
         self.open.as_ref().map(Open::plan).ok_or(Refusal::NoMachine)
+    }
+
+    /// The slack of the plan.
+    pub fn slack(&self) -> Result<Slack, Refusal> {
+        self.open.as_ref().map(Open::slack).ok_or(Refusal::NoMachine)
     }
 
     fn open_mut(&mut self) -> Result<&mut Open, Refusal> {
@@ -108,5 +114,13 @@ impl Open {
             processors,
             levels: grown.levels,
         }
+    }
+
+    fn slack(&self) -> Slack {
+        let mut places = [0; MOST_JOBS];
+        let works = &mut places[..self.jobs.len()];
+        let load = works_of(&self.jobs, works);
+        let grown = grow(&self.machine, &load, works);
+        Slack::of(&self.machine, &load, works, &grown.levels)
     }
 }

@@ -16,9 +16,9 @@ use Rattle.planner.specs.Roster.{wellFormed, replyTo}
 use Rattle.refusals.specs.Numbers.{refusalNumber, numberOf}
 use Rattle.refusals.proofs.Results.{number-rule}
 use Rattle.filing.specs.declared.Filing.{Filing}
-use Rattle.filing.specs.Plans.{Filed, filedBy, planReply}
+use Rattle.filing.specs.Plans.{Filed, filedBy}
 use Rattle.calls.specs.declared.LineAnswer.{LineAnswer}
-use Rattle.calls.specs.Lines.{Asked, malformed, change, plan, wantsPlan, answeredOn, malformedNumber, replyAs, passedOver}
+use Rattle.calls.specs.Lines.{Asked, malformed, change, wantsFrame, answeredOn, malformedNumber, filedAs, replyAs, passedOver}
 
 -- ---- A malformed line
 
@@ -49,12 +49,11 @@ module _ (r : Roster) (ask : Asked) (page : List ℕ) (place : ℕ) where
       ∙ ap (λ (q : Reply). record { number = numberOf (q .answer); roster = q .roster; page = page; count = 0 }) f
       ∙ ap (λ (q : Asked). replyAs r q page place) (sym a)
 
-  pub as-plan : (filing : Filing) (exit : List ℕ) → filedBy filing exit ≡ planReply r page place → ask ≡ plan
-      → answeredOn record { answer = filing .answer; roster = r; count = filing .count } exit ≡ replyAs r ask page place
-  unfolding replyAs
-  as-plan filing exit e a =
-      ap (λ (f : Filed). record { number = f .number; roster = r; page = f .page; count = f .count }) e
-      ∙ ap (λ (q : Asked). replyAs r q page place) (sym a)
+  -- A call that files a frame.
+  pub as-filed : (result : LineAnswer) (filing : Filing) (exit : List ℕ) (reply : Filed)
+      → result ≡ record { answer = filing .answer; roster = r; count = filing .count } → filedBy filing exit ≡ reply
+      → replyAs r ask page place ≡ filedAs r reply → answeredOn result exit ≡ replyAs r ask page place
+  as-filed result filing exit reply e f a = ap (λ (q : LineAnswer). answeredOn q exit) e ∙ ap (filedAs r) f ∙ sym a
 
 -- ---- A line of the host's
 
@@ -63,12 +62,12 @@ empty-list [] e = refl
 empty-list (x ∷ xs) e = absurd (omega arith)
 
 module _ (r : Roster) (ask : Asked) where
-  pub line-passed : wantsPlan ask ≡ true → answeredOn record { answer = Accepted; roster = r; count = 0 } [] ≡ passedOver r ask
+  pub line-passed : wantsFrame ask ≡ true → answeredOn record { answer = Accepted; roster = r; count = 0 } [] ≡ passedOver r ask
   unfolding passedOver
   line-passed e =
       ap (λ (n : ℕ). record { number = n; roster = r; page = []; count = 0 }) (number-rule .accepted) ∙ rw (e, passedOver)
 
-  pub line-called : wantsPlan ask ≡ false → (result : LineAnswer) (lent exit : List ℕ) → answeredOn result exit ≡ replyAs r ask lent 0
+  pub line-called : wantsFrame ask ≡ false → (result : LineAnswer) (lent exit : List ℕ) → answeredOn result exit ≡ replyAs r ask lent 0
       → length lent ≡ 0 → length exit ≡ 0 → answeredOn result [] ≡ passedOver r ask
   unfolding passedOver
   line-called e result lent exit f l x =

@@ -14,11 +14,14 @@ use Rattle.planner.specs.Model as planner
 use Rattle.planner.specs.Roster.{emptyRoster, modelOf, rosterOf, wellFormed}
 use Rattle.planner.specs.Claims.{Kept, Offered, answerTo, TurnedDown}
 use Rattle.planner.proofs.Results.{planner}
-use Rattle.filing.specs.Plans.{Filed, filed, planReply}
+use Rattle.filing.specs.Plans.{Filed, planReply}
 use Rattle.filing.proofs.Results.{files}
-use Rattle.calls.specs.Lines.{Asked, change, plan, askedBy, asked, replyAs, lineReply}
-use Rattle.calls.specs.Calls.{Call, onModel, onRoster, replies, end}
-use Rattle.calls.specs.Claims.{AskRule, WantsPlan, Offers, FiledNext, Demand3}
+use Rattle.slack_calls.specs.declared.SlackAnswer.{SlackAnswer}
+use Rattle.slack_calls.specs.Slacks.{slackReply, slackTo}
+use Rattle.slack_calls.proofs.Results.{slack-calls}
+use Rattle.calls.specs.Lines.{Asked, change, plan, slack, askedBy, asked, replyAs, lineReply}
+use Rattle.calls.specs.Calls.{Call, SlackWith, Line, Done, done, gave, wrote, onModel, onRoster, replies, end}
+use Rattle.calls.specs.Claims.{AskRule, WantsPlan, WantsSlack, Offers, FiledNext, SlackNext, Demand3}
 use Rattle.calls.specs.Claims as claims
 use Rattle.calls.proofs.Following.{never-7, list-replies, list-end, list-kept}
 
@@ -40,52 +43,77 @@ module _ (line : List ℕ) where
     admit = λ id cost period e. asked-by (says 3 (id ∷ cost ∷ period ∷ [])) e;
     retire = λ id e. asked-by (says 4 (id ∷ [])) e;
     plan-wanted = λ e. asked-by (says 5 []) e;
+    slack-wanted = λ e. asked-by (says 7 []) e;
   }
 
--- ---- The plan filed next
+-- ---- The plan filed next, and the slack of its tests
 
--- What a call that wants a plan gets is what the plan call's contract says.
-wanted : (r : Roster) (call : Call) (page : List ℕ) (place : ℕ) → WantsPlan call page place
-    → onRoster r call ≡ record { number = planReply r page place .number; page = planReply r page place .page; next = r }
-unfolding onRoster lineReply replyAs
-wanted r call page place (claims.with-numbers p q) = refl
-wanted r call page place (claims.as-line line p q e) =
-    ap (λ (a : Asked). record { number = replyAs r a page place .number; page = replyAs r a page place .page; next = replyAs r a page place .roster })
-    (ask-rule line .plan-wanted e)
+-- What a line gets is what the call with numbers does.
+line-gets : (r : Roster) (line page : List ℕ) (place : ℕ) (ask : Asked) → asked line ≡ ask
+    → onRoster r (Line line page place) ≡ done (replyAs r ask page place .number) (replyAs r ask page place .page) (replyAs r ask page place .roster)
+unfolding onRoster lineReply
+line-gets r line page place ask e =
+    ap (λ (a : Asked). done (replyAs r a page place .number) (replyAs r a page place .page) (replyAs r a page place .roster)) e
+
+plan-wanted : (r : Roster) (call : Call) (page : List ℕ) (place : ℕ) → WantsPlan call page place → onRoster r call ≡ wrote (planReply r page place) r
+unfolding onRoster replyAs
+plan-wanted r call page place (claims.with-numbers p q) = refl
+plan-wanted r call page place (claims.as-line line p q e) = line-gets r line page place plan (ask-rule line .plan-wanted e)
+
+slack-wanted : (r : Roster) (call : Call) (page : List ℕ) (place : ℕ) → WantsSlack call page place → onRoster r call ≡ wrote (slackReply r page place) r
+unfolding onRoster replyAs
+slack-wanted r call page place (claims.with-numbers p q) = refl
+slack-wanted r call page place (claims.as-line line p q e) = line-gets r line page place slack (ask-rule line .slack-wanted e)
 
 module _ (M : Machine) (table : List ℕ) (jobs : List Job) (kept : Kept (Opened M table jobs)) where
   abbrev roster : Roster
   roster = rosterOf (Opened M table jobs)
 
-  replied : (call : Call) (page : List ℕ) (place : ℕ) → WantsPlan call page place → (f : Filed) → filed (Opened M table jobs) page place ≡ f
-      → onRoster roster call ≡ record { number = f .number; page = f .page; next = roster }
-  replied call page place w f e =
-      wanted roster call page place w
-      ∙ ap (λ (g : Filed). record { number = g .number; page = g .page; next = roster }) (files .file-rule (Opened M table jobs) kept .follows page place ∙ e)
+  abbrev on-roster : Filed → Done Roster
+  on-roster f = wrote f roster
 
   pub filed-next : FiledNext roster M table jobs
   filed-next =
-      let found = files .file-rule (Opened M table jobs) kept .plan M table jobs refl in
+      let rule = files .file-rule (Opened M table jobs) kept in
+      let found = rule .plan M table jobs refl in
       let p = found .2 in
       record {
         levels = found .0;
         raises = found .1;
         plan = p;
-        written = λ call page place w h. replied call page place w _ (p .written page place h);
-        no-room = λ call page place w n. replied call page place w _ (p .no-room page place n);
+        written = λ call page place w h. plan-wanted roster call page place w ∙ ap on-roster (rule .follows page place ∙ p .written page place h);
+        no-room = λ call page place w n. plan-wanted roster call page place w ∙ ap on-roster (rule .follows page place ∙ p .no-room page place n);
+      }
+
+  pub slack-next : SlackNext roster M table jobs
+  slack-next =
+      let rule = slack-calls .slack-rule (Opened M table jobs) kept in
+      let found = rule .slack M table jobs refl in
+      let p = found .2 in
+      record {
+        levels = found .0;
+        raises = found .1;
+        slack = p;
+        written = λ call page place w h. slack-wanted roster call page place w ∙ ap on-roster (rule .follows page place ∙ p .written page place h);
+        no-room = λ call page place w n. slack-wanted roster call page place w ∙ ap on-roster (rule .follows page place ∙ p .no-room page place n);
       }
 
   -- ---- A job offered
 
-  offered-number : (call : Call) (new : Job) → Offers call new → onRoster roster call .number ≡ answerTo roster new
+  offered-number : (call : Call) (new : Job) → Offers call new → onRoster roster call .reply .number ≡ answerTo roster new
   unfolding onRoster lineReply replyAs
   offered-number call new (claims.with-numbers n) = refl
   offered-number call new (claims.as-line line page place n e) =
       ap (λ (a : Asked). replyAs roster a page place .number) (ask-rule line .admit (new .id) (new .cost) (new .period) e)
 
-  pub turned-down : (new : Job) → Offered jobs new → (call : Call) → Offers call new → TurnedDown (onRoster roster call .number) M jobs new
+  pub turned-down : (new : Job) → Offered jobs new → (call : Call) → Offers call new → TurnedDown (onRoster roster call .reply .number) M jobs new
   turned-down new offered call offers =
       subst (λ (n : ℕ). TurnedDown n M jobs new) (sym (offered-number call new offers)) (planner .turns-down M table jobs kept new offered)
+
+-- What the slack call with numbers gives is what its contract says.
+gives : (id cost period : ℕ) (r : Roster) → onRoster r (SlackWith id cost period) ≡ gave (slackTo r id cost period) r
+unfolding onRoster
+gives id cost period r = refl
 
 -- ---- All of it
 
@@ -113,10 +141,15 @@ module _ (calls : List Call) where
     carries = ap modelOf ends ∙ planner .one-call book book-kept .carried;
     kept = book-kept;
     well-formed = ap wellFormed ends ∙ planner .one-call book book-kept .well-formed;
-    never-7 = λ call e. never-7 book book-kept call (ap (λ (r : Roster). onRoster r call .number) (sym ends) ∙ e);
+    never-7 = λ call e. never-7 book book-kept call (ap (λ (r : Roster). onRoster r call .reply .number) (sym ends) ∙ e);
     filed-next = λ M table jobs e.
         subst (λ (r : Roster). FiledNext r M table jobs) (at-end M table jobs e) (filed-next M table jobs (open-kept M table jobs e));
     turned-down = λ M table jobs e new offered call offers.
-        subst (λ (r : Roster). TurnedDown (onRoster r call .number) M jobs new) (at-end M table jobs e)
+        subst (λ (r : Roster). TurnedDown (onRoster r call .reply .number) M jobs new) (at-end M table jobs e)
         (turned-down M table jobs (open-kept M table jobs e) new offered call offers);
+    slack-next = λ M table jobs e.
+        subst (λ (r : Roster). SlackNext r M table jobs) (at-end M table jobs e) (slack-next M table jobs (open-kept M table jobs e));
+    slack-with = slack-calls .with-rule book book-kept;
+    given = λ id cost period. gives id cost period (end onRoster emptyRoster calls) ∙ ap (λ (a : SlackAnswer). gave a (end onRoster emptyRoster calls))
+        (ap (λ (r : Roster). slackTo r id cost period) ends ∙ slack-calls .with-rule book book-kept id cost period .follows);
   }

@@ -10,7 +10,7 @@ use Rattle.planner.specs.Roster.{modelOf, rosterOf, wellFormed, replyTo}
 use Rattle.planner.specs.Calls.{after}
 use Rattle.planner.specs.Claims.{Kept}
 use Rattle.planner.proofs.Results.{planner}
-use Rattle.calls.specs.Lines.{Asked, malformed, change, plan, malformedNumber, replyAs}
+use Rattle.calls.specs.Lines.{Asked, malformed, change, plan, slack, malformedNumber, replyAs}
 
 -- A roster is damaged, or it is that of a model as calls make it.
 pub data Stands (r : Roster) : Type 0 where
@@ -47,3 +47,4 @@ unfolding replyAs
 after-line r so malformed page place = (so, refl)
 after-line r so (change call) page place = let next = after-call r so call in (next .0, same-number _ r (next .1))
 after-line r so plan page place = (so, refl)
+after-line r so slack page place = (so, refl)

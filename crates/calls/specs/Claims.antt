@@ -14,8 +14,10 @@ use Rattle.planner.specs.Roster.{emptyRoster, modelOf, rosterOf, wellFormed}
 use Rattle.planner.specs.Claims.{Kept, Offered, TurnedDown}
 use Rattle.filing.specs.Plans.{planLine}
 use Rattle.filing.specs.Claims.{frameLength, FiledPlan}
-use Rattle.calls.specs.Lines.{malformed, change, plan, asked}
-use Rattle.calls.specs.Calls.{Call, Change, Plan, Line, onModel, onRoster, replies, end}
+use Rattle.slack_calls.specs.Slacks.{slackLine, slackWith}
+use Rattle.slack_calls.specs.Claims.{slackLength, FiledSlack, WithRule}
+use Rattle.calls.specs.Lines.{malformed, change, plan, slack, asked}
+use Rattle.calls.specs.Calls.{Call, Change, Plan, Slack, SlackWith, Line, done, gave, onModel, onRoster, replies, end}
 
 -- ---- Lines
 
@@ -27,13 +29,18 @@ pub record AskRule (line : List ℕ) : Type 0 where
   pub admit : (id cost period : ℕ) → saidBy line ≡ says 3 (id ∷ cost ∷ period ∷ []) → asked line ≡ change (Admit id cost period)
   pub retire : (id : ℕ) → saidBy line ≡ says 4 (id ∷ []) → asked line ≡ change (Retire id)
   pub plan-wanted : saidBy line ≡ says 5 [] → asked line ≡ plan
+  pub slack-wanted : saidBy line ≡ says 7 [] → asked line ≡ slack
 
 -- ---- Demand 3
 
--- The calls that want a plan on a page from a place: the call with numbers, and every line that reads as it.
+-- The calls that want a plan on a page from a place: the call with numbers, and every line that reads as it. The same for the slack of its tests.
 pub data WantsPlan : Call → List ℕ → ℕ → Type 0 where
   with-numbers : (page : List ℕ) (place : ℕ) → WantsPlan (Plan page place) page place
   as-line : (line page : List ℕ) (place : ℕ) → saidBy line ≡ says 5 [] → WantsPlan (Line line page place) page place
+
+pub data WantsSlack : Call → List ℕ → ℕ → Type 0 where
+  with-numbers : (page : List ℕ) (place : ℕ) → WantsSlack (Slack page place) page place
+  as-line : (line page : List ℕ) (place : ℕ) → saidBy line ≡ says 7 [] → WantsSlack (Line line page place) page place
 
 -- The calls that offer a job: the call with numbers, and every line that reads as it.
 pub data Offers : Call → Job → Type 0 where
@@ -49,32 +56,46 @@ pub record FiledNext (r : Roster) (M : Machine) (table : List ℕ) (jobs : List 
   pub raises : ℕ
   pub plan : FiledPlan M table jobs levels raises
   pub written : (call : Call) (page : List ℕ) (place : ℕ) → WantsPlan call page place → place + frameLength (M .processors) ≤ length page
-      → onRoster r call
-      ≡ record {
-        number = 0;
-        page = take place page ++ (planLine table jobs levels raises ++ drop (place + frameLength (M .processors)) page);
-        next = r;
-      }
+      → onRoster r call ≡ done 0 (take place page ++ (planLine table jobs levels raises ++ drop (place + frameLength (M .processors)) page)) r
   pub no-room : (call : Call) (page : List ℕ) (place : ℕ) → WantsPlan call page place → (place + frameLength (M .processors) ≤ length page → ⊥)
-      → onRoster r call ≡ record { number = 6; page = page; next = r }
+      → onRoster r call ≡ done 6 page r
 
--- "For every list of machine, power, admit, retire and plan calls from the empty roster, refused ones included", made with numbers or as lines.
+-- What a slack call straight after the list writes where its page has room: the slack of each test under the plan filed next.
+pub record SlackNext (r : Roster) (M : Machine) (table : List ℕ) (jobs : List Job) : Type 0 where
+  pub levels : List ℕ
+  pub raises : ℕ
+  pub slack : FiledSlack M table jobs levels raises
+  pub written : (call : Call) (page : List ℕ) (place : ℕ) → WantsSlack call page place → place + slackLength (M .processors) ≤ length page
+      → onRoster r call ≡ done 0 (take place page ++ (slackLine M jobs levels ++ drop (place + slackLength (M .processors)) page)) r
+  pub no-room : (call : Call) (page : List ℕ) (place : ℕ) → WantsSlack call page place → (place + slackLength (M .processors) ≤ length page → ⊥)
+      → onRoster r call ≡ done 6 page r
+
+-- "For every list of machine, power, admit, retire and plan calls from the empty roster, refused ones included", and of slack calls, made with
+-- numbers or as lines.
 pub record Demand3 (calls : List Call) : Type 0 where
-  -- "… the replies and the roster after it are those of document 01's book of the same calls": each number and every byte of each lent page, and
-  -- the roster at the end.
+  -- "… the replies and the roster after it are those of document 01's book of the same calls": each number, every byte of each lent page and
+  -- all values given, and the roster at the end.
   pub same-replies : replies onRoster emptyRoster calls ≡ replies onModel Closed calls
   pub same-roster : end onRoster emptyRoster calls ≡ rosterOf (end onModel Closed calls)
   -- "The roster carries exactly the book's machine, table and jobs", keeps 01's rules, and never meets 7.
   pub carries : modelOf (end onRoster emptyRoster calls) ≡ end onModel Closed calls
   pub kept : Kept (end onModel Closed calls)
   pub well-formed : wellFormed (end onRoster emptyRoster calls) ≡ true
-  pub never-7 : (call : Call) → onRoster (end onRoster emptyRoster calls) call .number ≡ 7 → ⊥
+  pub never-7 : (call : Call) → onRoster (end onRoster emptyRoster calls) call .reply .number ≡ 7 → ⊥
   -- "After every such list, on an open machine, the plan filed next …"
   pub filed-next : (M : Machine) (table : List ℕ) (jobs : List Job) → end onModel Closed calls ≡ Opened M table jobs
       → FiledNext (end onRoster emptyRoster calls) M table jobs
   -- "After every such list, on an open machine, a job in range, under a new id, with a place free and the cycle within its limit …"
   pub turned-down : (M : Machine) (table : List ℕ) (jobs : List Job) → end onModel Closed calls ≡ Opened M table jobs
-      → (new : Job) → Offered jobs new → (call : Call) → Offers call new → TurnedDown (onRoster (end onRoster emptyRoster calls) call .number) M jobs new
+      → (new : Job) → Offered jobs new → (call : Call) → Offers call new → TurnedDown (onRoster (end onRoster emptyRoster calls) call .reply .number) M jobs new
+  -- The slack filed next is that of the plan filed next; and a job offered gets the slack that `WithRule` says of the model: below zero somewhere
+  -- exactly when its admission is refused by 17.
+  pub slack-next : (M : Machine) (table : List ℕ) (jobs : List Job) → end onModel Closed calls ≡ Opened M table jobs
+      → SlackNext (end onRoster emptyRoster calls) M table jobs
+  pub slack-with : (id cost period : ℕ) → WithRule (end onModel Closed calls) id cost period
+  pub given : (id cost period : ℕ)
+      → onRoster (end onRoster emptyRoster calls) (SlackWith id cost period)
+      ≡ gave (slackWith (end onModel Closed calls) id cost period) (end onRoster emptyRoster calls)
 
 -- ---- All of it
 

@@ -5,7 +5,8 @@ ghost use Prim.Native.Nat.{ℕ};
 ghost use lib.ListN.{take};
 ghost use Rattle.planner.specs.Model.{ReplaceTable};
 ghost use Rattle.refusals.specs.Numbers.{refusalNumber};
-ghost use Rattle.calls.specs.Lines.{change, plan, askedBy, asked, wantsPlan, answeredOn, malformedNumber, replyAs, lineReply, passedOver};
+ghost use Rattle.calls.specs.Lines.{change, askedBy, asked, wantsFrame, answeredOn, malformedNumber, replyAs, lineReply, passedOver};
+use filing::Filing;
 use filing::file_plan;
 use frame_kinds::Frame;
 use frame_reader::read_line;
@@ -14,6 +15,7 @@ use planner::Reply;
 use planner::Roster;
 use refusals::Answer;
 use refusals::Refusal;
+use slack_calls::file_slack;
 
 // The answer to a call made as a line, the roster that comes back, and how many bytes of the page were written.
 pub struct LineAnswer {
@@ -55,11 +57,10 @@ fn replace_table(roster: Roster, numbers: [u32; 32], count: usize) -> LineAnswer
     changed(roster.replace_table(&numbers[..end]))
 }
 
-// Kind 05: the roster stays.
-fn plan(roster: Roster, page: &mut [u8], place: usize) -> LineAnswer
-    ensures { λ r. ⌜ answeredOn r (now (page .exit)) ≡ replyAs roster plan (now (page .entry)) place ⌝ }
+// A call that files a frame leaves the roster.
+fn filed(filing: Filing, roster: Roster) -> LineAnswer
+    ensures { λ r. ⌜ r ≡ record { answer = filing .answer; roster = roster; count = filing .count } ⌝ }
 {
-    let filing = file_plan(roster, page, place);
     let answer = filing.answer;
     LineAnswer {
         answer,
@@ -100,7 +101,8 @@ pub fn call_frame(
             changed(roster.admit(id as u64, cost as u64, period as u64))
         }
         Frame::Retire { id } => changed(roster.retire(id as u64)),
-        Frame::PlanWanted => plan(roster, page, place),
+        Frame::PlanWanted => filed(file_plan(roster, page, place), roster),
+        Frame::SlackWanted => filed(file_slack(roster, page, place), roster),
     }
 }
 
@@ -114,12 +116,13 @@ pub fn call_line(roster: Roster, line: &[u8], page: &mut [u8], place: usize) -> 
     call_frame(roster, frame, values, page, place)
 }
 
-// Whether a frame wants a plan.
-fn wants_plan(frame: Frame) -> bool
-    ensures { λ r. ⌜ ((values : List ℕ) → r ≡ wantsPlan (askedBy frame values)) ⌝ }
+// Whether a frame wants a frame on a page.
+fn wants_frame(frame: Frame) -> bool
+    ensures { λ r. ⌜ ((values : List ℕ) → r ≡ wantsFrame (askedBy frame values)) ⌝ }
 {
     match frame {
         Frame::PlanWanted => true,
+        Frame::SlackWanted => true,
         Frame::Malformed => false,
         Frame::Machine {
             processors: _,
@@ -137,13 +140,13 @@ fn wants_plan(frame: Frame) -> bool
     }
 }
 
-// A line of the host's sheet: a wanted plan is passed over, and any other line is a call that is lent no page.
+// A line of the host's sheet: a wanted frame is passed over, and any other line is a call that is lent no page.
 pub fn host_line(roster: Roster, line: &[u8]) -> LineAnswer
     ensures { λ r. ⌜ answeredOn r [] ≡ passedOver roster (asked (now (line .entry))) ⌝ }
 {
     let reading = read_line(line);
     let frame = reading.frame;
-    if wants_plan(frame) {
+    if wants_frame(frame) {
         return LineAnswer {
             answer: Answer::Accepted,
             roster,

@@ -20,9 +20,11 @@ use Rattle.refusals.specs.Numbers.{refusalNumber, numberOf}
 use Rattle.refusals.proofs.Results.{number-rule}
 use Rattle.filing.specs.Plans.{putOn}
 use Rattle.filing.proofs.Results.{files}
+use Rattle.slack_calls.proofs.Results.{slack-calls}
 use Rattle.calls.specs.declared.LineAnswer.{LineAnswer}
 use Rattle.desk.specs.declared.Desk.{Desk}
-use Rattle.calls.specs.Lines.{Asked, malformed, change, plan, askedBy, asked, LineReply, answeredOn, malformedNumber, replyAs, lineReply}
+use Rattle.calls.specs.Lines.{Asked, malformed, change, plan, slack, askedBy, asked, LineReply, answeredOn, malformedNumber, replyAs, lineReply}
+use Rattle.sheets.specs.Sheets.{longestFrame}
 use Rattle.desk.specs.Pages.{settled, deskLine, filledOn, fillTooLong}
 
 -- ---- A sheet too long
@@ -32,17 +34,17 @@ module _ (desk : Desk) (size : ℕ) (page : List ℕ) where
   unfolding fillTooLong
   too-long-past h = rw (le-ltb (desk .at) size h, fillTooLong)
 
-  pub too-long-small : desk .at < size → length page < 89 → filledOn record { desk = desk; end = 0 } page ≡ fillTooLong desk size page
+  pub too-long-small : desk .at < size → length page < longestFrame → filledOn record { desk = desk; end = 0 } page ≡ fillTooLong desk size page
   unfolding fillTooLong
-  too-long-small h s = rw (lt-ltb (desk .at) size h, lt-leb 89 (length page) s, fillTooLong)
+  too-long-small h s = rw (lt-ltb (desk .at) size h, lt-leb longestFrame (length page) s, fillTooLong)
 
-  pub too-long-put : desk .at < size → 89 ≤ length page → (number line : ℕ) → line ≡ 0 → number ≡ 5
+  pub too-long-put : desk .at < size → longestFrame ≤ length page → (number line : ℕ) → line ≡ 0 → number ≡ 5
       → (count : ℕ) (exit : List ℕ) → count ≡ putOn page 0 (lineOf (refusalBytes line number)) .count
       → exit ≡ putOn page 0 (lineOf (refusalBytes line number)) .page
       → filledOn record { desk = record { roster = desk .roster; at = size; line = desk .line }; end = count } exit ≡ fillTooLong desk size page
   unfolding fillTooLong
   too-long-put h s number line l n count exit e f =
-      rw (lt-ltb (desk .at) size h, le-leb 89 (length page) s, fillTooLong)
+      rw (lt-ltb (desk .at) size h, le-leb longestFrame (length page) s, fillTooLong)
       (ap₂ (λ (k : ℕ) (q : List ℕ). record { desk = record { roster = desk .roster; at = size; line = desk .line }; page = q; end = k }) e f
       ∙ ap₂ (λ (a b : ℕ). record {
         desk = record { roster = desk .roster; at = size; line = desk .line };
@@ -89,6 +91,7 @@ unfolding replyAs
 reply-fits r malformed page place = inl refl
 reply-fits r (change call) page place = inl refl
 reply-fits r plan page place = files .reply-rule r page place .fits
+reply-fits r slack page place = slack-calls .reply-rule r page place .fits
 
 pub made-fits : (r : Roster) (ask : Asked) (page : List ℕ) (place : ℕ) (made : LineAnswer) (exit : List ℕ) → answeredOn made exit ≡ replyAs r ask page place
     → (made .count ≡ 0) ⊎ (place + made .count ≤ length page)

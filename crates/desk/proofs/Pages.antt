@@ -15,10 +15,12 @@ use Rattle.frame_reader.proofs.Lines.{next-within, line-size}
 use Rattle.frame_reader.proofs.Results.{reads}
 use Rattle.frame_writer.specs.Frames.{refusalBytes}
 use Rattle.planner.specs.declared.Roster.{Roster}
-use Rattle.filing.proofs.Written.{put-fits, put-length}
+use Rattle.filing.proofs.Written.{put-rule}
 use Rattle.filing.proofs.Results.{files}
+use Rattle.slack_calls.proofs.Results.{slack-calls}
 use Rattle.desk.specs.declared.Desk.{Desk}
-use Rattle.calls.specs.Lines.{Asked, malformed, change, plan, asked, LineReply, replyAs, lineReply}
+use Rattle.calls.specs.Lines.{Asked, malformed, change, plan, slack, asked, LineReply, replyAs, lineReply}
+use Rattle.sheets.specs.Sheets.{longestFrame}
 use Rattle.desk.specs.Pages.{nextLine, Lined, settled, deskLine, Filling, filledOn, fillLines, fillTooLong, fillPage}
 use Rattle.desk.specs.Claims.{PageRule}
 use Rattle.desk.proofs.Filling.{reply-fits, too-long-past, too-long-small, too-long-put}
@@ -30,6 +32,7 @@ unfolding replyAs
 reply-length r malformed page place = refl
 reply-length r (change call) page place = refl
 reply-length r plan page place = files .reply-rule r page place .same-length
+reply-length r slack page place = slack-calls .reply-rule r page place .same-length
 
 -- Written or not, within the page.
 within : (place count size total : ℕ) → size ≡ total → place ≤ total → (count ≡ 0) ⊎ (place + count ≤ size) → place + count ≤ total
@@ -43,14 +46,14 @@ module _ (number place : ℕ) (reply : LineReply) (page : List ℕ) (size : leng
       go true e = rw (e, settled) (within place (reply .count) (length page) (length page) refl h w)
       go false e =
           rw (e, settled)
-          (within place _ (length (reply .page)) (length page) size h (put-fits (reply .page) place (lineOf (refusalBytes number (reply .number)))))
+          (within place _ (length (reply .page)) (length page) size h (put-rule (reply .page) place (lineOf (refusalBytes number (reply .number))) .fits))
 
   settled-length : length (settled number place reply .page) ≡ length page
   settled-length = go (eqb (reply .number) 0) refl
     where
       go : (b : Bool) → eqb (reply .number) 0 ≡ b → length (settled number place reply .page) ≡ length page
       go true e = rw (e, settled, length) size
-      go false e = rw (e, settled, length) (put-length (reply .page) place (lineOf (refusalBytes number (reply .number))) ∙ size)
+      go false e = rw (e, settled, length) (put-rule (reply .page) place (lineOf (refusalBytes number (reply .number))) .same-length ∙ size)
 
 module _ (r : Roster) (number : ℕ) (line page : List ℕ) (place : ℕ) where
   pub lined-fits : place ≤ length page → deskLine r number line page place .end ≤ length page
@@ -70,13 +73,13 @@ module _ (desk : Desk) (line : List ℕ) (lines : List (List ℕ)) (page : List 
   abbrev after : Desk
   after = record { roster = lined .roster; at = desk .at + length line; line = nextLine (desk .line) }
 
-  pub fill-line : end + 89 ≤ length page → fillLines desk (line ∷ lines) page end ≡ fillLines after lines (lined .page) (lined .end)
+  pub fill-line : end + longestFrame ≤ length page → fillLines desk (line ∷ lines) page end ≡ fillLines after lines (lined .page) (lined .end)
   unfolding fillLines
-  fill-line h = rw (le-leb (end + 89) (length page) h, fillLines)
+  fill-line h = rw (le-leb (end + longestFrame) (length page) h, fillLines)
 
-  pub fill-stop : length page < end + 89 → fillLines desk (line ∷ lines) page end ≡ record { desk = desk; page = page; end = end }
+  pub fill-stop : length page < end + longestFrame → fillLines desk (line ∷ lines) page end ≡ record { desk = desk; page = page; end = end }
   unfolding fillLines
-  fill-stop h = rw (lt-leb (end + 89) (length page) h, fillLines)
+  fill-stop h = rw (lt-leb (end + longestFrame) (length page) h, fillLines)
 
 -- What holds of a page that is filled from some place on.
 pub record Keeps (desk : Desk) (page : List ℕ) (filling : Filling) : Type 0 where
@@ -87,9 +90,9 @@ pub record Keeps (desk : Desk) (page : List ℕ) (filling : Filling) : Type 0 wh
 pub lines-keep : (desk : Desk) (lines : List (List ℕ)) (page : List ℕ) (end : ℕ) → end ≤ length page → Keeps desk page (fillLines desk lines page end)
 lines-keep desk [] page end h = unfold fillLines in record { within = h; same-length = refl; forward = omega arith }
 lines-keep desk (line ∷ lines) page end h =
-    go (decLe (end + 89) (length page)) (lines-keep (after desk line lines page end) lines (lined desk line lines page end .page) (lined desk line lines page end .end))
+    go (decLe (end + longestFrame) (length page)) (lines-keep (after desk line lines page end) lines (lined desk line lines page end .page) (lined desk line lines page end .end))
   where
-    go : Dec (end + 89 ≤ length page)
+    go : Dec (end + longestFrame ≤ length page)
         → (lined desk line lines page end .end ≤ length (lined desk line lines page end .page)
         → Keeps (after desk line lines page end) (lined desk line lines page end .page)
         (fillLines (after desk line lines page end) lines (lined desk line lines page end .page) (lined desk line lines page end .end)))
@@ -142,7 +145,7 @@ module _ (desk : Desk) (sheet page₀ : List ℕ) where
       split : linesOf (drop at sheet) ≡ first ∷ linesOf (drop next sheet)
       split = reads .line-rule sheet .next at inside
 
-      pub fill-full : length page - end < 89
+      pub fill-full : length page - end < longestFrame
           → filledOn record { desk = record { roster = roster; at = at; line = line }; end = end } page
           ≡ fillLines desk (linesOf (drop (desk .at) sheet)) page₀ 0
       unfolding fillLines
@@ -150,10 +153,10 @@ module _ (desk : Desk) (sheet page₀ : List ℕ) where
           sym (
           so-far .same
           ∙ ap (λ ls. fillLines record { roster = roster; at = at; line = line } ls page end) split
-          ∙ rw (lt-leb (end + 89) (length page) (omega (arith, so-far .room)), fillLines)
+          ∙ rw (lt-leb (end + longestFrame) (length page) (omega (arith, so-far .room)), fillLines)
           )
 
-      pub fill-more : 89 ≤ length page - end → (next′ : ℕ) (roster′ : Roster) (end′ : ℕ) (page′ : List ℕ) (line′ : ℕ) → next′ ≡ next
+      pub fill-more : longestFrame ≤ length page - end → (next′ : ℕ) (roster′ : Roster) (end′ : ℕ) (page′ : List ℕ) (line′ : ℕ) → next′ ≡ next
           → record { roster = roster′; page = page′; end = end′ } ≡ deskLine roster line (take (next′ - at) (drop at sheet)) page end
           → line′ ≡ (line + 1) % 4294967296 → length page′ ≡ length page
           → Filling-on page′ roster′ next′ line′ end′
@@ -177,9 +180,9 @@ module _ (desk : Desk) (sheet page₀ : List ℕ) where
 -- ---- A sheet of either length
 
 too-long-keeps : (desk : Desk) (size : ℕ) (page : List ℕ) → Keeps desk page (fillTooLong desk size page)
-too-long-keeps desk size page = go (decLt (desk .at) size) (decLe 89 (length page))
+too-long-keeps desk size page = go (decLt (desk .at) size) (decLe longestFrame (length page))
   where
-    go : Dec (desk .at < size) → Dec (89 ≤ length page) → Keeps desk page (fillTooLong desk size page)
+    go : Dec (desk .at < size) → Dec (longestFrame ≤ length page) → Keeps desk page (fillTooLong desk size page)
     go (no past) room =
         subst (Keeps desk page) (too-long-past desk size page (omega arith)) record { within = omega arith; same-length = refl; forward = omega arith }
     go (yes inside) (no small) =
@@ -188,12 +191,12 @@ too-long-keeps desk size page = go (decLt (desk .at) size) (decLe 89 (length pag
     go (yes inside) (yes room) =
         subst (Keeps desk page) (too-long-put desk size page inside room 5 0 refl refl _ _ refl refl)
         record {
-          within = ⊎-elim (λ z. omega arith) (λ f. omega arith) (put-fits page 0 (lineOf (refusalBytes 0 5)));
-          same-length = put-length page 0 (lineOf (refusalBytes 0 5));
+          within = ⊎-elim (λ z. omega arith) (λ f. omega arith) (put-rule page 0 (lineOf (refusalBytes 0 5)) .fits);
+          same-length = put-rule page 0 (lineOf (refusalBytes 0 5)) .same-length;
           forward = omega arith;
         }
 
-too-long-further : (desk : Desk) (size : ℕ) (page : List ℕ) → desk .at < size → 89 ≤ length page → {filling : Filling} → filling ≡ fillTooLong desk size page
+too-long-further : (desk : Desk) (size : ℕ) (page : List ℕ) → desk .at < size → longestFrame ≤ length page → {filling : Filling} → filling ≡ fillTooLong desk size page
     → desk .at < filling .desk .at
 too-long-further desk size page inside room e =
     let at-end = too-long-put desk size page inside room 5 0 refl refl _ _ refl refl in
@@ -215,7 +218,7 @@ module _ (desk : Desk) (sheet page : List ℕ) where
       go (yes h) = subst (Keeps desk page) (sym (page-allowed h)) (lines-keep desk (linesOf (drop (desk .at) sheet)) page 0 (omega arith))
       go (no h) = subst (Keeps desk page) (sym (page-too-long (omega arith))) (too-long-keeps desk (length sheet) page)
 
-  further : 89 ≤ length page → desk .at < length sheet → desk .at < fillPage desk sheet page .desk .at
+  further : longestFrame ≤ length page → desk .at < length sheet → desk .at < fillPage desk sheet page .desk .at
   further room inside = go (decLe (length sheet) 65536)
     where
       go : Dec (length sheet ≤ 65536) → desk .at < fillPage desk sheet page .desk .at

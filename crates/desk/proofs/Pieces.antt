@@ -22,14 +22,17 @@ use Rattle.planner.specs.Model.{Model, Closed, Opened}
 use Rattle.planner.specs.Roster.{emptyRoster, rosterOf}
 use Rattle.planner.specs.Claims.{Kept}
 use Rattle.planner.proofs.Results.{planner}
-use Rattle.filing.specs.Plans.{Filed, planLine, filed, planReply}
+use Rattle.filing.specs.Plans.{Filed, filed}
 use Rattle.filing.specs.Claims.{frameLength}
 use Rattle.filing.proofs.Written.{put-room}
 use Rattle.filing.proofs.Results.{files}
+use Rattle.slack_calls.specs.Slacks.{slackFiled}
+use Rattle.slack_calls.specs.Claims.{slackLength}
+use Rattle.slack_calls.proofs.Results.{slack-calls}
 use Rattle.desk.specs.declared.Desk.{Desk}
-use Rattle.calls.specs.Lines.{Asked, malformed, change, plan, asked, LineReply, replyAs, lineReply}
+use Rattle.calls.specs.Lines.{Asked, malformed, change, plan, slack, asked, LineReply, filedAs, replyAs, lineReply}
 use Rattle.calls.specs.Calls.{Line, readAs, onModel, onRoster, replies}
-use Rattle.sheets.specs.Sheets.{blank, deskCalls, writtenOn, output, outputs, deskSheet}
+use Rattle.sheets.specs.Sheets.{longestFrame, blank, deskCalls, writtenOn, output, outputs, deskSheet}
 use Rattle.desk.specs.Pages.{atStart, nextLine, Lined, settled, deskLine, Filling, fillLines, fillPage, pieces, deskAfter}
 use Rattle.desk.specs.Claims.{DeskRule}
 use Rattle.desk.proofs.Blank.{on-line}
@@ -50,13 +53,13 @@ take-put page place line rest n h e =
 
 -- What the desk writes for a line by the reply on a blank page.
 abbrev lineOutput : ℕ → LineReply → List ℕ
-lineOutput number reply = output number record { number = reply .number; page = reply .page }
+lineOutput number reply = output number record { number = reply .number; page = reply .page; ticks = []; remainders = [] }
 
 -- What is filled up to its end is what was, and the output.
 abbrev Adds : List ℕ → ℕ → Lined → List ℕ → Type 0
 Adds page place lined out = take (lined .end) (lined .page) ≡ take place page ++ out
 
-module _ (number : ℕ) (page : List ℕ) (place : ℕ) (room : place + 89 ≤ length page) where
+module _ (number : ℕ) (page : List ℕ) (place : ℕ) (room : place + longestFrame ≤ length page) where
   fits : place ≤ length page
   fits = omega arith
 
@@ -82,15 +85,15 @@ module _ (number : ℕ) (page : List ℕ) (place : ℕ) (room : place + 89 ≤ l
       let same : place + 0 ≡ place = omega arith in
       rw (eq-eqb n 0 z, settled, output) (ap (λ (k : ℕ). take k page) same ∙ sym (append-nil (take place page)))
 
-  -- A plan adds its frame.
-  adds-plan : (r : Roster) (line bytes : List ℕ) (n : ℕ) → line ≡ lineOf bytes → n ≡ length line → n ≤ 89
+  -- A frame that is filed is added.
+  adds-frame : (r : Roster) (line bytes : List ℕ) (n : ℕ) → line ≡ lineOf bytes → n ≡ length line → n ≤ longestFrame
       → Adds page place (settled number place record { number = 0; roster = r; page = take place page ++ (line ++ drop (place + n) page); count = n })
       (lineOutput number record { number = 0; roster = r; page = take 0 blank ++ (line ++ drop (0 + n) blank); count = n })
   unfolding output
-  adds-plan r line bytes n l e small =
+  adds-frame r line bytes n l e small =
       take-put page place line (drop (place + n) page) n fits e
       ∙ ap (λ (q : List ℕ). take place page ++ q)
-      (l ∙ sym (ap (λ (q : List ℕ). writtenOn (q ++ drop (0 + n) blank)) l ∙ on-line bytes (0 + n) 89))
+      (l ∙ sym (ap (λ (q : List ℕ). writtenOn (q ++ drop (0 + n) blank)) l ∙ on-line bytes (0 + n) longestFrame))
 
   module _ (model : Model) (kept : Kept model) where
     abbrev r : Roster
@@ -107,32 +110,30 @@ module _ (number : ℕ) (page : List ℕ) (place : ℕ) (room : place + 89 ≤ l
         go true e = adds-none n next (eqb-true n 0 e)
         go false e = adds-refused n 0 0 next blank (eqb-false n 0 e)
 
-    -- On the plan call by its filing on the model.
-    abbrev filedTo : Filed → LineReply
-    filedTo f = record { number = f .number; roster = rosterOf model; page = f .page; count = f .count }
+    -- A call that files a frame, by what is filed on the page and on a blank one.
+    abbrev FiledAdds : Filed → Filed → Type 0
+    FiledAdds f g = Adds page place (settled number place (filedAs r f)) (lineOutput number (filedAs r g))
 
-    adds-filed : (m : Model) → m ≡ model → Adds page place (settled number place (filedTo (filed m page place))) (lineOutput number (filedTo (filed m blank 0)))
-    adds-filed Closed e =
-        subst (λ (f : Filed). Adds page place (settled number place (filedTo f)) (lineOutput number (filedTo (filed Closed blank 0)))) (sym (files .files-closed page place))
-        (subst (λ (f : Filed). Adds page place (settled number place record { number = 11; roster = r; page = page; count = 0 }) (lineOutput number (filedTo f)))
-        (sym (files .files-closed blank 0)) (adds-number 11 r))
-    adds-filed (Opened M table jobs) e =
+    adds-by : (f g f′ g′ : Filed) → f ≡ f′ → g ≡ g′ → FiledAdds f′ g′ → FiledAdds f g
+    adds-by f g f′ g′ e e′ adds = subst (λ (q : Filed). FiledAdds q g) (sym e) (subst (λ (q : Filed). FiledAdds f′ q) (sym e′) adds)
+
+    adds-plan : (m : Model) → m ≡ model → FiledAdds (filed m page place) (filed m blank 0)
+    adds-plan Closed e = adds-by _ _ _ _ (files .files-closed page place) (files .files-closed blank 0) (adds-number 11 r)
+    adds-plan (Opened M table jobs) e =
         let open-kept = subst Kept (sym e) kept in
         let found = files .file-rule (Opened M table jobs) open-kept .plan M table jobs refl in
         let p = found .2 in
-        let small : frameLength (M .processors) ≤ 89 = omega (arith, open-kept .0 .machine-range .processors) in
-        subst (λ (f : Filed). Adds page place (settled number place (filedTo f)) (lineOutput number (filedTo (filed (Opened M table jobs) blank 0))))
-        (sym (p .written page place (omega arith)))
-        (subst (λ (f : Filed). Adds page place
-        (settled number place record {
-          number = 0;
-          roster = r;
-          page = take place page ++ (planLine table jobs (found .0) (found .1) ++ drop (place + frameLength (M .processors)) page);
-          count = frameLength (M .processors);
-        })
-        (lineOutput number (filedTo f)))
-        (sym (p .written blank 0 (omega arith)))
-        (adds-plan r (planLine table jobs (found .0) (found .1)) _ (frameLength (M .processors)) (p .frame) (sym (p .size)) small))
+        let small : frameLength (M .processors) ≤ longestFrame = omega (arith, open-kept .0 .machine-range .processors) in
+        adds-by _ _ _ _ (p .written page place (omega arith)) (p .written blank 0 (omega arith)) (adds-frame r _ _ _ (p .frame) (sym (p .size)) small)
+
+    adds-slack : (m : Model) → m ≡ model → FiledAdds (slackFiled m page place) (slackFiled m blank 0)
+    adds-slack Closed e = adds-by _ _ _ _ (slack-calls .slack-closed page place) (slack-calls .slack-closed blank 0) (adds-number 11 r)
+    adds-slack (Opened M table jobs) e =
+        let open-kept = subst Kept (sym e) kept in
+        let found = slack-calls .slack-rule (Opened M table jobs) open-kept .slack M table jobs refl in
+        let p = found .2 in
+        let small : slackLength (M .processors) ≤ longestFrame = omega (arith, open-kept .0 .machine-range .processors) in
+        adds-by _ _ _ _ (p .written page place (omega arith)) (p .written blank 0 (omega arith)) (adds-frame r _ _ _ (p .frame) (sym (p .size)) small)
 
     -- Every way to ask.
     adds-asked : (ask : Asked) → Adds page place (settled number place (replyAs r ask page place)) (lineOutput number (replyAs r ask blank 0))
@@ -140,10 +141,11 @@ module _ (number : ℕ) (page : List ℕ) (place : ℕ) (room : place + 89 ≤ l
     adds-asked malformed = adds-number _ r
     adds-asked (change call) = adds-number _ _
     adds-asked plan =
-        let file = files .file-rule model kept .follows in
-        subst (λ (f : Filed). Adds page place (settled number place (filedTo f)) (lineOutput number (filedTo (planReply r blank 0)))) (sym (file page place))
-        (subst (λ (f : Filed). Adds page place (settled number place (filedTo (filed model page place))) (lineOutput number (filedTo f))) (sym (file blank 0))
-        (adds-filed model refl))
+        let follows = files .file-rule model kept .follows in
+        adds-by _ _ _ _ (follows page place) (follows blank 0) (adds-plan model refl)
+    adds-asked slack =
+        let follows = slack-calls .slack-rule model kept .follows in
+        adds-by _ _ _ _ (follows page place) (follows blank 0) (adds-slack model refl)
 
     -- The roster after a line does not depend on the page.
     same-next : (ask : Asked) → replyAs r ask page place .roster ≡ replyAs r ask blank 0 .roster
@@ -151,6 +153,7 @@ module _ (number : ℕ) (page : List ℕ) (place : ℕ) (room : place + 89 ≤ l
     same-next malformed = refl
     same-next (change call) = refl
     same-next plan = refl
+    same-next slack = refl
 
     roster-by : (reply : LineReply) → settled number place reply .roster ≡ reply .roster
     roster-by reply = go (eqb (reply .number) 0) refl
@@ -215,7 +218,7 @@ module _ (sheet : List ℕ) where
     same = ap (λ ls. take end page ++ rest (rosterOf model) number ls) e;
   }
 
-  module _ (model : Model) (kept : Kept model) (at number : ℕ) (line : List ℕ) (lines : List (List ℕ)) (page : List ℕ) (end : ℕ) (room : end + 89 ≤ length page) where
+  module _ (model : Model) (kept : Kept model) (at number : ℕ) (line : List ℕ) (lines : List (List ℕ)) (page : List ℕ) (end : ℕ) (room : end + longestFrame ≤ length page) where
     abbrev desk : Desk
     desk = deskAt model at number
 
@@ -258,13 +261,13 @@ module _ (sheet : List ℕ) where
       → Joins (fillLines (deskAt model at number) lines page end) (take end page) (rest (rosterOf model) number lines)
   joins [] model kept at number e page end h = unfold fillLines in joins-stop model kept at number [] e page end
   joins (line ∷ lines) model kept at number e page end h =
-      go (decLe (end + 89) (length page))
+      go (decLe (end + longestFrame) (length page))
       (λ room. joins lines (next model kept at number line lines page end room) (next-kept model kept at number line lines page end room) (at + length line) (nextLine number)
       (line-tail at line lines e) (deskLine (rosterOf model) number line page end .page) (deskLine (rosterOf model) number line page end .end)
       (omega (arith, lined-fits (rosterOf model) number line page end h, lined-length (rosterOf model) number line page end)))
     where
-      go : Dec (end + 89 ≤ length page)
-          → ((room : end + 89 ≤ length page)
+      go : Dec (end + longestFrame ≤ length page)
+          → ((room : end + longestFrame ≤ length page)
           → Joins (fillLines (deskAt (next model kept at number line lines page end room) (at + length line) (nextLine number)) lines (lined model kept at number line lines page end room .page) (lined model kept at number line lines page end room .end))
           (take (lined model kept at number line lines page end room .end) (lined model kept at number line lines page end room .page))
           (rest (rosterOf (next model kept at number line lines page end room)) (nextLine number) lines))
@@ -341,9 +344,9 @@ module _ (sheet : List ℕ) (long : 65536 < length sheet) where
   refused-once : (pages : List (List ℕ)) (desk : Desk) → desk .at < length sheet → length sheet ≤ deskAfter desk sheet pages .at → pieces desk sheet pages ≡ refusal
   unfolding pieces deskAfter
   refused-once [] desk inside h = absurd (omega arith)
-  refused-once (page ∷ pages) desk inside h = go (decLe 89 (length page)) (refused-once pages desk inside)
+  refused-once (page ∷ pages) desk inside h = go (decLe longestFrame (length page)) (refused-once pages desk inside)
     where
-      go : Dec (89 ≤ length page) → (length sheet ≤ deskAfter desk sheet pages .at → pieces desk sheet pages ≡ refusal)
+      go : Dec (longestFrame ≤ length page) → (length sheet ≤ deskAfter desk sheet pages .at → pieces desk sheet pages ≡ refusal)
           → pieces desk sheet (page ∷ pages) ≡ refusal
       go (yes room) later =
           let size : length refusal ≡ 13 = omega (arith, hexadecimal .line-length (refusalBytes 0 5)) in

@@ -24,7 +24,7 @@ use refusals::Answer;
 // The longest sheet; the longest frame out with its 0A.
 const LONGEST_SHEET: usize = 65536;
 
-const LONGEST_FRAME: usize = 89;
+const LONGEST_FRAME: usize = 579;
 
 // Where the desk is in its sheet: the roster, the position of the next line, and its number.
 pub struct Desk {
@@ -84,6 +84,7 @@ fn is_malformed(frame: Frame) -> bool
         } => false,
         Frame::Retire { id: _ } => false,
         Frame::PlanWanted => false,
+        Frame::SlackWanted => false,
     }
 }
 

@@ -13,9 +13,9 @@ use Rattle.power_tables.specs.Entries.{zeros}
 use Rattle.roster_shape.specs.Shape.{allZero as zeroTest}
 use Rattle.planner.specs.Roster.{emptyRoster, modelOf, wellFormed}
 use Rattle.refusals.specs.Numbers.{refusalNumber}
-use Rattle.filing.specs.Plans.{putOn, planLine, filedAs, filedOn, filed, planReply}
+use Rattle.filing.specs.Plans.{putOn, planLine, filedAs, filedOn, filed, replyOn, planReply}
 use Rattle.filing.specs.Claims.{FileTrials}
 
 pub trials : FileTrials
-unfolding euclid gcd lcm speed top machine window hyperperiod work works insert sortDescending largest capacity slowest raise demand holds raisesLeft raiseWhileFails step steps growing planOf total digitOf digitsOf lineOf written unused zeros emptyRoster modelOf zeroTest wellFormed refusalNumber putOn planLine filedAs filedOn filed planReply
+unfolding euclid gcd lcm speed top machine window hyperperiod work works insert sortDescending largest capacity slowest raise demand holds raisesLeft raiseWhileFails step steps growing planOf total digitOf digitsOf lineOf written unused zeros emptyRoster modelOf zeroTest wellFormed refusalNumber putOn planLine filedAs filedOn filed replyOn planReply
 trials = record { sheet = refl; on-blank = refl; no-room = refl; no-machine = refl }

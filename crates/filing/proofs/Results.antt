@@ -3,8 +3,6 @@ use Prim.Native.Nat.{ℕ, zero, suc, _+_, _*_, _≤_, _<_}
 use native.Mathlib.Decide.{decLe, decLt}
 use native.Mathlib.Omega.{arith}
 use mathlib.Core.Path.{_≡_, refl, sym, ap, subst, _∙_}
-use mathlib.Core.Bool.{Bool, true, false}
-use mathlib.Core.Logic.{_⊎_, inl}
 use mathlib.Core.List.{List, [], _∷_, _++_, map}
 use lib.ListN.{length, take, drop, length-map}
 use Rattle.gmf.specs.declared.Machine.{Machine}
@@ -15,18 +13,16 @@ use Rattle.gmf.specs.Capacity.{sum, level}
 use Rattle.gmf.specs.Power.{power, powerLimit, total}
 use Rattle.gmf.specs.Claims.{Least}
 use Rattle.gmf.proofs.Results.{method}
-use Rattle.planner.specs.declared.Roster.{Roster}
 use Rattle.planner.specs.Model.{Model, Closed, Opened}
-use Rattle.planner.specs.Roster.{modelOf, rosterOf, wellFormed}
 use Rattle.planner.specs.Claims.{Kept}
+use Rattle.refusals.specs.declared.Refusal.the-variants as refusal
 use Rattle.refusals.proofs.Results.{number-rule}
-use Rattle.planner.proofs.Results.{planner}
 use Rattle.filing.specs.Plans.{Filed, putOn, planLine, filedAs, filedOn, filed, planReply}
 use Rattle.filing.specs.Claims.{frameLength, FiledPlan, ReplyRule, FileRule, FilesClosed, Files}
 use Rattle.filing.proofs.AcceptanceTrials.{trials}
-use Rattle.filing.proofs.Written.{put-room, put-no-room, put-fits, put-as-lent, put-length, line-size}
+use Rattle.filing.proofs.Written.{put-room, put-no-room, put-rule, line-size}
 use Rattle.filing.proofs.Sound.{grown}
-use Rattle.filing.proofs.Replies.{well, damaged}
+use Rattle.filing.proofs.Replies.{unwritten-rule, any-reply, reply-kept}
 
 -- ---- Sums of numbers that are not too large
 
@@ -141,42 +137,26 @@ not-7 (Opened M table jobs) kept page place e = go (decLe (place + frameLength (
     go (no n) = omega (arith, ap (λ (f : Filed). f .number) (filed-one .no-room page place n))
 
 file-rule : (model : Model) → Kept model → FileRule model
+unfolding planReply
 file-rule model kept = record {
   never-7 = not-7 model kept;
-  follows = λ page place.
-      let rule = planner .one-call model kept in
-      well (rosterOf model) (rule .well-formed) page place ∙ ap (λ (m : Model). filed m page place) (rule .carried);
+  follows = reply-kept filed model kept;
   plan = λ M table jobs e.
       let open-kept = subst Kept e kept in
       let found = grown M (open-kept .0 .machine-range) jobs (open-kept .0 .some-plan) in
       (found .0, found .1, filed-plan M table jobs open-kept (found .0) (found .1) (found .2));
 }
 
--- Every way to reply.
-abbrev Fits : List ℕ → ℕ → Filed → Type 0
-Fits page place f =
-    ((f .count ≡ 0) ⊎ (place + f .count ≤ length page)) × (length (f .page) ≡ length page) × ((f .number ≡ 0 → ⊥) → f .page ≡ page)
-
-fits-as : (table : List ℕ) (jobs : List Job) (g : Growth) (page : List ℕ) (place : ℕ) → Fits page place (filedAs table jobs g page place)
+rule-as : (table : List ℕ) (jobs : List Job) (g : Growth) (page : List ℕ) (place : ℕ) → ReplyRule (filedAs table jobs g page place) page place
 unfolding filedAs
-fits-as table jobs (Grown plan raises) page place = (
-  put-fits page place (planLine table jobs plan raises),
-  put-length page place (planLine table jobs plan raises),
-  put-as-lent page place (planLine table jobs plan raises),
-)
-fits-as table jobs NoPlan page place = (inl refl, refl, λ n. refl)
+rule-as table jobs (Grown plan raises) page place = put-rule page place (planLine table jobs plan raises)
+rule-as table jobs NoPlan page place = unwritten-rule refusal.NoPlan page place
 
-fits-on : (model : Model) (page : List ℕ) (place : ℕ) → Fits page place (filed model page place)
+rule-on : (model : Model) (page : List ℕ) (place : ℕ) → ReplyRule (filed model page place) page place
 unfolding filed filedOn
-fits-on Closed page place = (inl refl, refl, λ n. refl)
-fits-on (Opened M table jobs) page place = fits-as table jobs (planOf M jobs) page place
-
-reply-rule : (r : Roster) (page : List ℕ) (place : ℕ) → ReplyRule r page place
-reply-rule r page place = let both = go (wellFormed r) refl in record { fits = both .0; same-length = both .1; as-lent = both .2 }
-  where
-    go : (b : Bool) → wellFormed r ≡ b → Fits page place (planReply r page place)
-    go true e = subst (Fits page place) (sym (well r e page place)) (fits-on (modelOf r) page place)
-    go false e = subst (Fits page place) (sym (damaged r e page place)) (inl refl, refl, λ n. refl)
+rule-on Closed page place = unwritten-rule refusal.NoMachine page place
+rule-on (Opened M table jobs) page place = rule-as table jobs (planOf M jobs) page place
 
 pub files : Files
-files = record { files-closed = closed; reply-rule = reply-rule; file-rule = file-rule; trials = trials }
+unfolding planReply
+files = record { files-closed = closed; reply-rule = any-reply filed rule-on; file-rule = file-rule; trials = trials }

@@ -38,10 +38,10 @@ module _ (M : Machine) (in-range : InRange M) (jobs : List Job) where
 
 -- ---- What the code has of it
 
-zeros-at : (n k : ℕ) → _≡_ {A = ℕ} (getD (replicate n 0) k 0) 0
-zeros-at zero k = refl
-zeros-at (suc n) zero = refl
-zeros-at (suc n) (suc k) = zeros-at n k
+pub all-alike : {A : Type 0} (z : A) (n k : ℕ) → getD (replicate n z) k z ≡ z
+all-alike z zero k = refl
+all-alike z (suc n) zero = refl
+all-alike z (suc n) (suc k) = all-alike z n k
 
 same-line : (a b c d e f g h : ℕ) (u v : List ℕ) → a ≡ b → c ≡ d → e ≡ f → g ≡ h → u ≡ v
     → lineOf (planBytes a c e g u) ≡ lineOf (planBytes b d f h v)
@@ -108,7 +108,7 @@ module _ (r : Roster) (s : IsSound r) (p : Plan) where
             ap (λ (k : ℕ). power (r .table) k) (sym past)
             ∙ sym (getD-drop (M .levels) (r .table) (j - M .levels) 0)
             ∙ ap (λ (q : List ℕ). getD q (j - M .levels) 0) (s .unused-entries)
-            ∙ zeros-at (32 - M .levels) (j - M .levels) in
+            ∙ all-alike 0 (32 - M .levels) (j - M .levels) in
             omega arith
 
     pub total-is : total (r .table) (take (M .processors) (p .levels)) ≡ total table plan

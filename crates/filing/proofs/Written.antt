@@ -23,7 +23,7 @@ use Rattle.refusals.specs.declared.Answer.the-variants.{Accepted, Refused}
 use Rattle.refusals.specs.declared.Refusal.the-variants as refusal
 use Rattle.refusals.specs.Numbers.{refusalNumber, numberOf}
 use Rattle.filing.specs.Plans.{Filed, filedBy, putOn, planLine}
-use Rattle.filing.specs.Claims.{frameLength}
+use Rattle.filing.specs.Claims.{frameLength, ReplyRule}
 
 -- What is filed by a reply of the writer.
 abbrev filedWith : Reply → List ℕ → Filed
@@ -59,24 +59,22 @@ module _ (p : List ℕ) (place : ℕ) (line : List ℕ) where
   unfolding putOn written
   put-no-room n = rw (lt-leb (place + length line) (length p) (omega (arith, n)), written)
 
-  -- What is written ends on the page.
-  pub put-fits : (putOn p place line .count ≡ 0) ⊎ (place + putOn p place line .count ≤ length p)
-  put-fits = go (decLe (place + length line) (length p))
+  pub put-rule : ReplyRule (putOn p place line) p place
+  put-rule = record { fits = fits; same-length = unfold putOn in lining .page-rule p place line .same-length; as-lent = as-lent }
     where
-      go : Dec (place + length line ≤ length p) → (putOn p place line .count ≡ 0) ⊎ (place + putOn p place line .count ≤ length p)
-      go (yes h) = inr (rw (ap (λ (f : Filed). f .count) (put-room h)) h)
-      go (no n) = inl (ap (λ (f : Filed). f .count) (put-no-room n))
+      ends : Dec (place + length line ≤ length p) → (putOn p place line .count ≡ 0) ⊎ (place + putOn p place line .count ≤ length p)
+      ends (yes h) = inr (rw (ap (λ (f : Filed). f .count) (put-room h)) h)
+      ends (no n) = inl (ap (λ (f : Filed). f .count) (put-no-room n))
 
-  pub put-as-lent : (putOn p place line .number ≡ 0 → ⊥) → putOn p place line .page ≡ p
-  put-as-lent n = go (decLe (place + length line) (length p))
-    where
-      go : Dec (place + length line ≤ length p) → putOn p place line .page ≡ p
-      go (yes h) = absurd (n (ap (λ (f : Filed). f .number) (put-room h)))
-      go (no f) = ap (λ (q : Filed). q .page) (put-no-room f)
+      fits : (putOn p place line .count ≡ 0) ⊎ (place + putOn p place line .count ≤ length p)
+      fits = ends (decLe (place + length line) (length p))
 
-  pub put-length : length (putOn p place line .page) ≡ length p
-  unfolding putOn
-  put-length = lining .page-rule p place line .same-length
+      left : Dec (place + length line ≤ length p) → (putOn p place line .number ≡ 0 → ⊥) → putOn p place line .page ≡ p
+      left (yes h) n = absurd (n (ap (λ (f : Filed). f .number) (put-room h)))
+      left (no f) n = ap (λ (q : Filed). q .page) (put-no-room f)
+
+      as-lent : (putOn p place line .number ≡ 0 → ⊥) → putOn p place line .page ≡ p
+      as-lent = left (decLe (place + length line) (length p))
 
 pub line-size : (table : List ℕ) (jobs : List Job) (plan : List ℕ) (raises : ℕ) → length (planLine table jobs plan raises) ≡ frameLength (length plan)
 unfolding planLine

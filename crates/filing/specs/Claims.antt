@@ -17,7 +17,7 @@ use Rattle.planner.specs.declared.Roster.{Roster}
 use Rattle.planner.specs.Model.{Model, Closed, Opened}
 use Rattle.planner.specs.Roster.{emptyRoster, rosterOf}
 use Rattle.planner.specs.Claims.{Kept, exampleModel}
-use Rattle.filing.specs.Plans.{planLine, filed, planReply}
+use Rattle.filing.specs.Plans.{Filed, planLine, filed, planReply}
 
 -- The frame of a plan, its 0A with it: 12 bytes and one for each level, two digits a byte.
 abbrev pub frameLength : ℕ → ℕ
@@ -51,12 +51,12 @@ pub record FiledPlan (M : Machine) (table : List ℕ) (jobs : List Job) (plan : 
   pub no-room : (page : List ℕ) (place : ℕ) → (place + frameLength (M .processors) ≤ length page → ⊥)
       → filed (Opened M table jobs) page place ≡ record { number = 6; page = page; count = 0 }
 
--- Whatever the roster, what is written ends on the page, the page keeps its length, and a refusal leaves it as lent.
-pub record ReplyRule (r : Roster) (page : List ℕ) (place : ℕ) : Type 0 where
-  pub fits : (planReply r page place .count ≡ 0) ⊎ (place + planReply r page place .count ≤ length page)
-  pub same-length : length (planReply r page place .page) ≡ length page
+-- What is written ends on the page, the page keeps its length, and a refusal leaves it as lent.
+pub record ReplyRule (reply : Filed) (page : List ℕ) (place : ℕ) : Type 0 where
+  pub fits : (reply .count ≡ 0) ⊎ (place + reply .count ≤ length page)
+  pub same-length : length (reply .page) ≡ length page
   -- "A refused frame writes nothing …"
-  pub as-lent : (planReply r page place .number ≡ 0 → ⊥) → planReply r page place .page ≡ page
+  pub as-lent : (reply .number ≡ 0 → ⊥) → reply .page ≡ page
 
 -- For every model that calls can make.
 pub record FileRule (model : Model) : Type 0 where
@@ -78,13 +78,13 @@ pub record FileTrials : Type 0 where
             ∷ 48 ∷ 51 ∷ 48 ∷ 51 ∷ 48 ∷ 50 ∷ 48 ∷ 49 ∷ 10 ∷ 0 ∷ 0 ∷ 0 ∷ 0 ∷ [];
         count = 33;
       }
-  -- On a blank page of 89 bytes.
-  pub on-blank : filed (exampleModel 5) (replicate 89 0) 0
+  -- On a blank page of 579 bytes.
+  pub on-blank : filed (exampleModel 5) (replicate 579 0) 0
       ≡ record {
         number = 0;
         page =
             56 ∷ 49 ∷ 48 ∷ 53 ∷ 48 ∷ 48 ∷ 48 ∷ 48 ∷ 48 ∷ 48 ∷ 48 ∷ 65 ∷ 48 ∷ 48 ∷ 48 ∷ 48 ∷ 48 ∷ 48 ∷ 65 ∷ 51 ∷ 48 ∷ 48 ∷ 48 ∷ 57
-            ∷ 48 ∷ 51 ∷ 48 ∷ 51 ∷ 48 ∷ 50 ∷ 48 ∷ 49 ∷ 10 ∷ replicate 56 0;
+            ∷ 48 ∷ 51 ∷ 48 ∷ 51 ∷ 48 ∷ 50 ∷ 48 ∷ 49 ∷ 10 ∷ replicate 546 0;
         count = 33;
       }
   pub no-room : filed (exampleModel 0) (replicate 35 7) 3 ≡ record { number = 6; page = replicate 35 7; count = 0 }
@@ -97,6 +97,7 @@ FilesClosed = (page : List ℕ) (place : ℕ) → filed Closed page place ≡ re
 
 pub record Files : Type 0 where
   pub files-closed : FilesClosed
-  pub reply-rule : (r : Roster) (page : List ℕ) (place : ℕ) → ReplyRule r page place
+  -- Whatever the roster.
+  pub reply-rule : (r : Roster) (page : List ℕ) (place : ℕ) → ReplyRule (planReply r page place) page place
   pub file-rule : (model : Model) → Kept model → FileRule model
   pub trials : FileTrials

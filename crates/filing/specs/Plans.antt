@@ -60,6 +60,10 @@ unfoldable pub filed : Model → List ℕ → ℕ → Filed
 filed Closed page place = unwritten refusal.NoMachine page
 filed (Opened M table jobs) page place = filedOn M table jobs page place
 
--- What a plan call on a roster replies. 7 "is looked at before everything else".
+-- What a call that writes on a page replies on a roster, by what it does on a model. 7 "is looked at before everything else".
+unfoldable pub replyOn : (Model → List ℕ → ℕ → Filed) → Roster → List ℕ → ℕ → Filed
+replyOn on r page place = elim (wellFormed r) [ true ↦ on (modelOf r) page place | false ↦ unwritten refusal.Damaged page ]
+
+-- What a plan call on a roster replies.
 unfoldable pub planReply : Roster → List ℕ → ℕ → Filed
-planReply r page place = elim (wellFormed r) [ true ↦ filed (modelOf r) page place | false ↦ unwritten refusal.Damaged page ]
+planReply = replyOn filed

@@ -22,7 +22,7 @@ pub struct Filing {
 }
 
 // A refusal writes nothing.
-fn unfiled(refusal: Refusal) -> Filing
+pub fn unfiled(refusal: Refusal) -> Filing
     ensures { λ r. ⌜ r ≡ record { answer = Refused refusal; count = 0 } ⌝ }
 {
     Filing {

@@ -9,9 +9,9 @@ use lib.ListN.{length, take, drop, getD, replicate, List·getD-eq-default}
 use lib.Seq.{take-all}
 use borrow.Author.Tests.{eq-eqb, ne-eqb}
 use Rattle.frame_kinds.specs.declared.Frame.{Frame}
-use Rattle.frame_kinds.specs.declared.Frame.the-variants.{Malformed, Machine, Power, Admit, Retire, PlanWanted}
+use Rattle.frame_kinds.specs.declared.Frame.the-variants.{Malformed, Machine, Power, Admit, Retire}
 use Rattle.frame_kinds.specs.declared.Reading.{Reading}
-use Rattle.frame_kinds.specs.Frames.{says, refused, fields, values, sum, kindOf, rightLength, widthsIn, numbersFrom, saidAs, saidWith, longestFrame, besideOf, readingOf}
+use Rattle.frame_kinds.specs.Frames.{says, refused, fields, values, sum, bare, kindOf, rightLength, widthsIn, numbersFrom, saidAs, saidWith, longestFrame, besideOf, readingOf}
 use Rattle.frame_kinds.specs.Claims.{LongestRule}
 use Rattle.frame_kinds.proofs.Lengths.{fours-right, fours-wrong}
 use Rattle.frame_kinds.proofs.Numbers.{one-byte, two-bytes, numbers-length, Filled}
@@ -85,13 +85,14 @@ module _ (rest : List ℕ) where
   unfolding kindOf
   retire-wrong = fields-wrong 4 rest (2 ∷ []) refl
 
-  pub plan-right : length rest ≡ 0 → alone PlanWanted ≡ readingOf (saidAs 5 rest)
-  unfolding kindOf numbersFrom
-  plan-right = fields-right 5 rest [] refl
+  -- A kind that nothing follows.
+  module _ (kind : ℕ) (frame : Frame) (same : kindOf kind ≡ bare frame) where
+    pub bare-right : length rest ≡ 0 → alone frame ≡ readingOf (saidAs kind rest)
+    unfolding numbersFrom
+    bare-right e = rw same at (fields-right kind rest [] (rw same) e)
 
-  pub plan-wrong : (length rest ≡ 0 → ⊥) → alone Malformed ≡ readingOf (saidAs 5 rest)
-  unfolding kindOf
-  plan-wrong = fields-wrong 5 rest [] refl
+    pub bare-wrong : (length rest ≡ 0 → ⊥) → alone Malformed ≡ readingOf (saidAs kind rest)
+    bare-wrong = fields-wrong kind rest [] (rw same)
 
   -- Not 4 to 128 bytes in fours.
   pub power-wrong : ((4 ≤ length rest) × (length rest ≤ 128) × (length rest % 4 ≡ 0) → ⊥) → alone Malformed ≡ readingOf (saidAs 2 rest)
@@ -106,41 +107,27 @@ module _ (rest : List ℕ) where
 -- ---- Any kind
 
 -- By the table's places, and past its end.
-pub each-kind : (P : ℕ → Type 0) → P 0 → P 1 → P 2 → P 3 → P 4 → P 5 → ((more : ℕ) → P (suc (suc (suc (suc (suc (suc more))))))) → (kind : ℕ) → P kind
-each-kind P p0 p1 p2 p3 p4 p5 past zero = p0
-each-kind P p0 p1 p2 p3 p4 p5 past (suc zero) = p1
-each-kind P p0 p1 p2 p3 p4 p5 past (suc (suc zero)) = p2
-each-kind P p0 p1 p2 p3 p4 p5 past (suc (suc (suc zero))) = p3
-each-kind P p0 p1 p2 p3 p4 p5 past (suc (suc (suc (suc zero)))) = p4
-each-kind P p0 p1 p2 p3 p4 p5 past (suc (suc (suc (suc (suc zero))))) = p5
-each-kind P p0 p1 p2 p3 p4 p5 past (suc (suc (suc (suc (suc (suc more)))))) = past more
+pub each-kind : (P : ℕ → Type 0) → P 0 → P 1 → P 2 → P 3 → P 4 → P 5 → P 6 → P 7 → ((more : ℕ) → P (suc (suc (suc (suc (suc (suc (suc (suc more)))))))))
+    → (kind : ℕ) → P kind
+each-kind P p0 p1 p2 p3 p4 p5 p6 p7 past zero = p0
+each-kind P p0 p1 p2 p3 p4 p5 p6 p7 past (suc zero) = p1
+each-kind P p0 p1 p2 p3 p4 p5 p6 p7 past (suc (suc zero)) = p2
+each-kind P p0 p1 p2 p3 p4 p5 p6 p7 past (suc (suc (suc zero))) = p3
+each-kind P p0 p1 p2 p3 p4 p5 p6 p7 past (suc (suc (suc (suc zero)))) = p4
+each-kind P p0 p1 p2 p3 p4 p5 p6 p7 past (suc (suc (suc (suc (suc zero))))) = p5
+each-kind P p0 p1 p2 p3 p4 p5 p6 p7 past (suc (suc (suc (suc (suc (suc zero)))))) = p6
+each-kind P p0 p1 p2 p3 p4 p5 p6 p7 past (suc (suc (suc (suc (suc (suc (suc zero))))))) = p7
+each-kind P p0 p1 p2 p3 p4 p5 p6 p7 past (suc (suc (suc (suc (suc (suc (suc (suc more)))))))) = past more
 
-pub kind-zero : (rest : List ℕ) → alone Malformed ≡ readingOf (saidAs 0 rest)
+-- The kinds that are none.
+pub kind-wrong : (kind n : ℕ) → (kind ≡ 0) ⊎ ((kind ≡ 6) ⊎ (7 < kind)) → rightLength (kindOf kind .layout) n ≡ false
 unfolding kindOf rightLength
-kind-zero rest = wrong-length 0 rest refl
+kind-wrong kind n (inl e) = rw e
+kind-wrong kind n (inr (inl e)) = rw e
+kind-wrong kind n (inr (inr h)) = rw List·getD-eq-default
 
-pub unknown-kind : (kind : ℕ) (rest : List ℕ) → (kind ≡ 1 → ⊥) → (kind ≡ 2 → ⊥) → (kind ≡ 3 → ⊥) → (kind ≡ 4 → ⊥) → (kind ≡ 5 → ⊥)
-    → alone Malformed ≡ readingOf (saidAs kind rest)
-unfolding kindOf rightLength
-unknown-kind kind rest =
-    each-kind
-    (λ k. (k ≡ 1 → ⊥) → (k ≡ 2 → ⊥) → (k ≡ 3 → ⊥) → (k ≡ 4 → ⊥) → (k ≡ 5 → ⊥) → alone Malformed ≡ readingOf (saidAs k rest))
-    (λ n1 n2 n3 n4 n5. kind-zero rest)
-    (λ n1 n2 n3 n4 n5. absurd (n1 refl))
-    (λ n1 n2 n3 n4 n5. absurd (n2 refl))
-    (λ n1 n2 n3 n4 n5. absurd (n3 refl))
-    (λ n1 n2 n3 n4 n5. absurd (n4 refl))
-    (λ n1 n2 n3 n4 n5. absurd (n5 refl))
-    (λ more n1 n2 n3 n4 n5. wrong-length _ rest refl)
-    kind
-
-pub kind-wrong : (kind n : ℕ) → (kind < 1) ⊎ (5 < kind) → rightLength (kindOf kind .layout) n ≡ false
-unfolding kindOf rightLength
-kind-wrong kind n (inl h) = rw first
-  where
-    first : kind ≡ 0
-    first = omega arith
-kind-wrong kind n (inr h) = rw List·getD-eq-default
+pub unknown-kind : (kind : ℕ) (rest : List ℕ) → (kind ≡ 0) ⊎ ((kind ≡ 6) ⊎ (7 < kind)) → alone Malformed ≡ readingOf (saidAs kind rest)
+unknown-kind kind rest none = wrong-length kind rest (kind-wrong kind (length rest) none)
 
 -- As many bytes as the longest frame has are too many after a kind.
 too-long : (n : ℕ) → longestFrame ≤ n → (kind : ℕ) → rightLength (kindOf kind .layout) n ≡ false
@@ -152,6 +139,8 @@ too-long n h =
     (fours-wrong n (λ p. omega arith))
     (ne-eqb n 6 (λ e. omega arith))
     (ne-eqb n 2 (λ e. omega arith))
+    (ne-eqb n 0 (λ e. omega arith))
+    refl
     (ne-eqb n 0 (λ e. omega arith))
     (λ more. refl)
 

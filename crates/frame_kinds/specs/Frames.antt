@@ -5,7 +5,7 @@ use mathlib.Core.List.{List, [], _∷_, _++_}
 use lib.Dec.{leb, eqb}
 use lib.ListN.{length, take, getD, replicate}
 use Rattle.frame_kinds.specs.declared.Frame.{Frame}
-use Rattle.frame_kinds.specs.declared.Frame.the-variants.{Malformed, Machine, Power, Admit, Retire, PlanWanted}
+use Rattle.frame_kinds.specs.declared.Frame.the-variants.{Malformed, Machine, Power, Admit, Retire, PlanWanted, SlackWanted}
 use Rattle.frame_kinds.specs.declared.Reading.{Reading}
 
 -- ---- What some bytes say
@@ -49,9 +49,17 @@ admit = record { layout = fields (2 ∷ 2 ∷ 2 ∷ []); frame = λ ns. Admit (n
 abbrev pub retire : Kind
 retire = record { layout = fields (2 ∷ []); frame = λ ns. Retire (nth ns 0) }
 
+-- A kind that nothing follows.
+abbrev pub bare : Frame → Kind
+bare frame = record { layout = fields []; frame = λ ns. frame }
+
 -- "05 plan wanted": "nothing".
 abbrev pub planWanted : Kind
-planWanted = record { layout = fields []; frame = λ ns. PlanWanted }
+planWanted = bare PlanWanted
+
+-- "Frame 07, refused as 05 …" (02, 2026-01): how much is left over is wanted.
+abbrev pub slackWanted : Kind
+slackWanted = bare SlackWanted
 
 -- "… an unknown kind …".
 abbrev pub noKind : Kind
@@ -59,7 +67,7 @@ noKind = record { layout = unknown; frame = λ ns. Malformed }
 
 -- The kinds in the order of their bytes, from 00 on.
 unfoldable pub kindOf : ℕ → Kind
-kindOf byte = getD (noKind ∷ machine ∷ power ∷ admit ∷ retire ∷ planWanted ∷ []) byte noKind
+kindOf byte = getD (noKind ∷ machine ∷ power ∷ admit ∷ retire ∷ planWanted ∷ noKind ∷ slackWanted ∷ []) byte noKind
 
 -- The sum of some widths.
 abbrev pub sum : List ℕ → ℕ
@@ -113,6 +121,7 @@ saidOf (Power count) beside = says 2 (take count beside)
 saidOf (Admit id cost period) beside = says 3 (id ∷ cost ∷ period ∷ [])
 saidOf (Retire id) beside = says 4 (id ∷ [])
 saidOf PlanWanted beside = says 5 []
+saidOf SlackWanted beside = says 7 []
 
 unfoldable pub said : Reading → Said
 said reading = saidOf (reading .frame) (reading .values)

@@ -1,9 +1,9 @@
 // The kinds of frame, and the frame that some bytes are. The definitions are in specs/.
 ghost use mathlib.Core.Path.{_≡_};
 ghost use mathlib.Core.List.{_++_};
-ghost use Prim.Native.Nat.{_+_, _-_, _*_, _≤_};
+ghost use Prim.Native.Nat.{ℕ, _+_, _-_, _*_, _≤_};
 ghost use lib.ListN.{length, replicate};
-ghost use Rattle.frame_kinds.specs.Frames.{numbersFrom, saidAs, saidWith, readingOf};
+ghost use Rattle.frame_kinds.specs.Frames.{bare, kindOf, numbersFrom, saidAs, saidWith, readingOf};
 
 // A frame by its kind, or that some bytes are none. New kinds are appended.
 pub enum Frame {
@@ -27,6 +27,7 @@ pub enum Frame {
         id: u16,
     },
     PlanWanted,
+    SlackWanted,
 }
 
 // A frame, and the values of a power frame with zeros after them.
@@ -142,14 +143,14 @@ fn retire(rest: &[u8]) -> Reading
     })
 }
 
-// Kind 05: nothing.
-fn plan_wanted(rest: &[u8]) -> Reading
-    ensures { λ r. ⌜ r ≡ readingOf (saidAs 5 (now (rest .entry))) ⌝ }
+// Kinds 05 and 07: nothing. `frame` is the frame of the kind.
+fn wanted(rest: &[u8], frame: Frame) -> Reading
+    ensures { λ r. ⌜ ((kind : ℕ) → kindOf kind ≡ bare frame → r ≡ readingOf (saidAs kind (now (rest .entry)))) ⌝ }
 {
     if rest.len() != 0 {
         return alone(Frame::Malformed);
     }
-    alone(Frame::PlanWanted)
+    alone(frame)
 }
 
 // The frame in some bytes, by its kind.
@@ -166,7 +167,8 @@ pub fn read_bytes(bytes: &[u8]) -> Reading
         2 => power(rest),
         3 => admit(rest),
         4 => retire(rest),
-        5 => plan_wanted(rest),
-        0 | 6..=255 => alone(Frame::Malformed),
+        5 => wanted(rest, Frame::PlanWanted),
+        7 => wanted(rest, Frame::SlackWanted),
+        0 | 6 | 8..=255 => alone(Frame::Malformed),
     }
 }

@@ -40,8 +40,9 @@ fn other_frames() {
     // retire 43981: id (2), AB CD is 171 × 256 + 205
     read(b"04ABCD\n");
     read(b"04abcd\n");
-    // plan wanted: nothing follows the kind
+    // plan wanted, slack wanted: nothing follows the kind
     read(b"05\n");
+    read(b"07\n");
 }
 
 pub fn good() {
@@ -84,16 +85,20 @@ fn other_bytes() {
 }
 
 fn unknown_kinds() {
-    // an unknown kind: 00; 06, which follows the last kind; 50, with its digits exchanged; one that is only written; the last byte
+    // an unknown kind: 00; 06, between two kinds; 08, which follows the last kind; 50 and 70, with their digits exchanged; two that are only
+    // written; the last byte
     read(b"00\n");
     read(b"06\n");
+    read(b"08\n");
     read(b"50\n");
+    read(b"70\n");
     read(b"81\n");
+    read(b"83\n");
     read(b"FF\n");
 }
 
 fn wrong_lengths() {
-    // a wrong length: a byte less and a byte more for 01, 03, 04, 05; none, 3 and 5 bytes for 02
+    // a wrong length: a byte less and a byte more for 01, 03, 04; a byte more for 05, 07; none, 3 and 5 bytes for 02
     read(b"010404000100\n");
     read(b"0104040001000100\n");
     read(b"030001000A00\n");
@@ -101,6 +106,7 @@ fn wrong_lengths() {
     read(b"0400\n");
     read(b"04000100\n");
     read(b"0500\n");
+    read(b"0700\n");
     read(b"02\n");
     read(b"02000000\n");
     read(b"020000001200\n");
@@ -143,8 +149,8 @@ fn lengths_of(kind: u8, from: usize, to: usize) {
     }
 }
 
-// Every kind with 0 to 8 bytes after it: frames are 01 and 03 with 6, 02 with 4 and 8, 04 with 2, 05 with none. Then 02 with 9 to 132: frames
-// are those in fours up to 128.
+// Every kind with 0 to 8 bytes after it: frames are 01 and 03 with 6, 02 with 4 and 8, 04 with 2, 05 and 07 with none. Then 02 with 9 to 132:
+// frames are those in fours up to 128.
 pub fn lengths() {
     for kind in 0..=255 {
         lengths_of(kind, 0, 9);

@@ -13,4 +13,5 @@ fn main() {
     sheets::taken_apart();
     pages::refusals();
     pages::plans();
+    pages::slacks();
 }

@@ -94,7 +94,55 @@ pub fn plans() {
     plan(40, 8);
     // 6: the head of the frame has no room
     plan(20, 0);
-    // 0: n FF, H FFFFFFFF, power 12345678, raises FEDC, levels FF, thirty times 1F, 01: the longest frame, 89 bytes; 6: 88 bytes are one less
+    // 0: n FF, H FFFFFFFF, power 12345678, raises FEDC, levels FF, thirty times 1F, 01: the longest frame 81, 89 bytes; 6: 88 bytes are one less
     longest(89);
     longest(88);
+}
+
+// Frame 83 for some of 32 tests: ticks −1 and remainder 3; 0123456789ABCDEF and 255; the least number and 0; the largest and 1; then 0 and 2.
+fn write_slack(count: usize, page: &mut [u8], place: usize) {
+    let mut ticks = [0i64; 32];
+    ticks[0] = -1;
+    ticks[1] = 81_985_529_216_486_895;
+    ticks[2] = -9_223_372_036_854_775_808;
+    ticks[3] = 9_223_372_036_854_775_807;
+    let mut remainders = [2; 32];
+    remainders[0] = 3;
+    remainders[1] = 255;
+    remainders[2] = 0;
+    remainders[3] = 1;
+    let placing = slack_writer::write_slack(ticks, remainders, count, page, place);
+    result(placing, page);
+}
+
+// The same, into a page of 580 bytes or fewer.
+fn slack(count: usize, length: usize, place: usize) {
+    let mut page = [b'.'; 580];
+    if length <= 580 {
+        write_slack(count, &mut page[..length], place);
+    }
+}
+
+// A line of n tests has 18 n + 3 bytes.
+pub fn slacks() {
+    // 0: 83, FFFFFFFFFFFFFFFF 03 and the 0A, 21 bytes, with 1 as lent before it and 2 after
+    slack(1, 24, 1);
+    // 0: it ends with the page; 6: it would end past it
+    slack(1, 24, 3);
+    slack(1, 24, 4);
+    // 0: no test, 83 and the 0A; 6: no room for the 0A
+    slack(0, 3, 0);
+    slack(0, 2, 0);
+    // 0: 83, FFFFFFFFFFFFFFFF 03, 0123456789ABCDEF FF, 8000000000000000 00, 7FFFFFFFFFFFFFFF 01: 75 bytes
+    slack(4, 75, 0);
+    // 6, 0, 0: the longest frame, with 28 times 0000000000000000 02 after these: 579 bytes on a page of one less, of as many and of one more
+    slack(32, 578, 0);
+    slack(32, 579, 0);
+    slack(32, 580, 0);
+    // 0: from place 1 to the end of the page; 6: the place is the page's end
+    slack(32, 580, 1);
+    slack(32, 580, 580);
+    // 0: a count beyond the tests is that of all
+    slack(33, 579, 0);
+    slack(18_446_744_073_709_551_615, 579, 0);
 }

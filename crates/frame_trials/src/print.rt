@@ -55,6 +55,7 @@ pub fn reading(got: Reading) {
             number(id as u64);
         }
         Frame::PlanWanted => text(b"plan wanted"),
+        Frame::SlackWanted => text(b"slack wanted"),
     }
     text(b"\n");
 }

@@ -3,7 +3,7 @@ use Prim.Native.Nat.{ℕ, suc, _+_, _*_, _≤_, _<_, min}
 use native.Mathlib.Nat.{le-refl, le-trans, mul-le-mul, mul-le-mul-left, mul-le-mul-right}
 use native.Mathlib.Decide.{decLt, le-ind}
 use native.Mathlib.Omega.{arith}
-use mathlib.Core.Path.{_≡_, sym, ap, ap₂, subst, _∙_}
+use mathlib.Core.Path.{_≡_, sym, ap, ap₂, _∙_}
 use mathlib.Core.Logic.{_⊎_, inl, inr}
 use mathlib.Core.Bool.{Bool, true, false, true≢false, false≢true}
 use mathlib.Core.List.{List}
@@ -19,7 +19,7 @@ use Rattle.gmf.specs.Growing.{demand}
 use Rattle.gmf.proofs.Largest.{largest-zero, largest-some, largest-all}
 use Rattle.gmf.proofs.Capacity.{demand-part, demand-whole}
 use Rattle.selection.specs.Turns.{noneTaken, nextAfter, turn}
-use Rattle.selection.proofs.Turns.{takes-in-turn, turn-work, turn-every}
+use Rattle.selection.proofs.Turns.{takes-in-turn, turn-work}
 use Rattle.workload.proofs.Loads.{works-bound}
 
 -- ---- What growing is over: a machine and jobs in range, by rising id, in a hyperperiod within its limit
@@ -80,7 +80,7 @@ module _ (M : Machine) (jobs : List Job) (given : Given M jobs) where
 
   -- ---- The demand of test suc i
 
-  demand-last : (i : ℕ) → suc i ≡ last → demand M H ws (suc i) ≡ sum ws
+  pub demand-last : (i : ℕ) → last ≤ suc i → demand M H ws (suc i) ≡ sum ws
   demand-last i e = go (decLt (suc i) (M .processors))
     where
       go : Dec (suc i < M .processors) → demand M H ws (suc i) ≡ sum ws
@@ -104,7 +104,7 @@ module _ (M : Machine) (jobs : List Job) (given : Given M jobs) where
   pub ready-last : (i supply weighed taken : ℕ) (job : Job) (small : Bool) → suc i ≡ last → weighed ≡ sum ws
       → Ready M jobs weighed taken job small supply i
   ready-last i supply weighed taken job small e a = record {
-    asks = inl (ap (λ (d : ℕ). top M * d) (a ∙ sym (demand-last i e)));
+    asks = inl (ap (λ (d : ℕ). top M * d) (a ∙ sym (demand-last i (omega arith))));
     most = omega arith;
     same = λ h. absurd (omega arith);
     told = λ h. absurd (omega arith);
@@ -116,9 +116,6 @@ module _ (M : Machine) (jobs : List Job) (given : Given M jobs) where
       next-is : job′ ≡ turn jobs (suc i)
       unfolding turn
       next-is = j ∙ ap (λ last. nextAfter last jobs) (told .exact n .1)
-
-      pub next-range : JobInRange job′
-      next-range = subst JobInRange (sym next-is) (turn-every jobs (given .in-range) (given .rising) JobInRange (given .in-range) i (omega arith))
 
       module _ (e : w ≡ work H job′) where
         work-more : taken + w ≡ largest (suc i) ws

@@ -3,11 +3,11 @@ ghost use mathlib.Core.Path.{_≡_};
 ghost use Prim.Native.Nat.{_≤_, min};
 ghost use lib.ListN.{take};
 ghost use Rattle.gmf.specs.Machine.{InRange};
-ghost use Rattle.gmf.specs.Jobs.{JobInRange, ByRisingId, Every, hyperperiod, hyperperiodLimit, work};
+ghost use Rattle.gmf.specs.Jobs.{JobInRange, ByRisingId, Every, hyperperiod, hyperperiodLimit};
 ghost use Rattle.workload.specs.Load.{totals};
 ghost use Rattle.growing.specs.Plan.{planned, withoutPlan};
 use accessors::top_speed;
-use accessors::window;
+use accessors::work_of;
 use gmf::Job;
 use gmf::Machine;
 use selection::next_job;
@@ -35,8 +35,9 @@ fn no_plan() -> Plan
     }
 }
 
-// How many steps may raise: with fewer jobs than processors, those after the last job raise nothing.
-fn steps_of(processors: u8, held: usize) -> usize
+// How many steps may raise: with fewer jobs than processors, those after the last job raise nothing. From the last of them on a test weighs all
+// works.
+pub fn steps_of(processors: u8, held: usize) -> usize
     ensures { λ r. ⌜ r ≡ min processors held ⌝ }
 {
     let m = processors as usize;
@@ -44,14 +45,6 @@ fn steps_of(processors: u8, held: usize) -> usize
         return m;
     }
     held
-}
-
-// The work of a job in a hyperperiod.
-fn work_of(job: Job, hyperperiod: u32) -> u64
-    requires { ⌜ JobInRange job ⌝ }
-    ensures { λ r. ⌜ r ≡ work hyperperiod job ⌝ }
-{
-    job.cost as u64 * (hyperperiod / window(job) as u32) as u64
 }
 
 // Grows the plan of the first `held` jobs, whose totals are at hand: step by step one processor more joins, and the

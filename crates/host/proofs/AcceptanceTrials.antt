@@ -2,6 +2,7 @@
 use Prim.Native.Nat.{ℕ, suc, _≤_}
 use native.Mathlib.Omega.{arith}
 use mathlib.Core.Path.{_≡_, refl, sym, ap, _∙_}
+use mathlib.Core.Bool.{true}
 use mathlib.Core.List.{List, [], _∷_, _++_}
 use lib.ListN.{length, take, drop, replicate}
 use Rattle.hexadecimal.specs.Text.{digitOf, digitsOf, lineOf, valueOf, byteBefore, endOf, textOf}
@@ -16,44 +17,44 @@ use Rattle.refusals.proofs.Results.{number-rule}
 use Rattle.planner.proofs.Results.{planner as laws}
 use Rattle.filing.specs.Plans.{Filed, filed}
 use Rattle.filing.proofs.Results.{files}
-use Rattle.calls.specs.Lines.{Asked, malformed, change, plan, askedBy, asked, wantsPlan}
-use Rattle.calls.specs.Calls.{Call, changed, planned, readAs, onModel, replies, end}
+use Rattle.calls.specs.Lines.{Asked, malformed, change, askedBy, asked, wantsFrame}
+use Rattle.calls.specs.Calls.{changed, readAs, onModel, replies, end}
 use Rattle.host.specs.Host.{lineOnModel, callsFrom, hostCalls, lastNumber, refusedFrom, refusedLine, hostReply}
 use Rattle.host.specs.Claims.{SheetTrials}
 use Rattle.host.proofs.Walking.{Walked, walked, walked-pass, walked-next, walked-stop}
-use Rattle.host.proofs.Hosting.{host-rule}
+use Rattle.host.proofs.Hosting.{line-allowed, host-rule}
 
 -- ---- A line of the host's
 
 module _ (model : Model) (number : ℕ) (line : List ℕ) (lines : List (List ℕ)) where
-  host-number : (ask : Asked) → asked line ≡ ask → lineOnModel model line .number ≡ readAs model ask [] 0 .number
+  host-number : (ask : Asked) → asked line ≡ ask → lineOnModel model line .reply .number ≡ readAs model ask [] 0 .reply .number
   unfolding lineOnModel onModel
-  host-number ask a = ap (λ (q : Asked). readAs model q [] 0 .number) a
+  host-number ask a = ap (λ (q : Asked). readAs model q [] 0 .reply .number) a
 
   host-next : (ask : Asked) → asked line ≡ ask → lineOnModel model line .next ≡ readAs model ask [] 0 .next
   unfolding lineOnModel onModel
   host-next ask a = ap (λ (q : Asked). readAs model q [] 0 .next) a
 
   goes-on : (call : planner.Call) (next : Model) → asked line ≡ change call → Does model call 0 next → walked model number (line ∷ lines) ≡ walked next (suc number) lines
-  unfolding readAs changed wantsPlan
+  unfolding readAs changed wantsFrame
   goes-on call next a does =
-      walked-next model number line lines (ap wantsPlan a) (host-number (change call) a ∙ does .0)
+      walked-next model number line lines (ap wantsFrame a) (host-number (change call) a ∙ does .0)
       ∙ ap (λ (m : Model). walked m (suc number) lines) (host-next (change call) a ∙ does .1)
 
   ends-by : (call : planner.Call) (n : ℕ) (next : Model) → asked line ≡ change call → Does model call n next → (n ≡ 0 → ⊥)
       → walked model number (line ∷ lines) ≡ record { number = n; line = number; model = next }
-  unfolding readAs changed wantsPlan
+  unfolding readAs changed wantsFrame
   ends-by call n next a does some =
       let is = host-number (change call) a ∙ does .0 in
-      walked-stop model number line lines (ap wantsPlan a) (λ z. some (sym is ∙ z))
+      walked-stop model number line lines (ap wantsFrame a) (λ z. some (sym is ∙ z))
       ∙ ap (λ (k : ℕ). record { number = k; line = number; model = lineOnModel model line .next }) is
       ∙ ap (λ (m : Model). record { number = n; line = number; model = m }) (host-next (change call) a ∙ does .1)
 
   ends-unread : asked line ≡ malformed → walked model number (line ∷ lines) ≡ record { number = 5; line = number; model = model }
-  unfolding readAs wantsPlan
+  unfolding readAs wantsFrame
   ends-unread a =
       let is = host-number malformed a ∙ number-rule .malformed in
-      walked-stop model number line lines (ap wantsPlan a) (λ z. omega (arith, is))
+      walked-stop model number line lines (ap wantsFrame a) (λ z. omega (arith, is))
       ∙ ap (λ (k : ℕ). record { number = k; line = number; model = lineOnModel model line .next }) is
       ∙ ap (λ (m : Model). record { number = 5; line = number; model = m }) (host-next malformed a)
 
@@ -91,37 +92,37 @@ module _ (sheet : List ℕ) (short : length sheet ≤ 65536) (w : Walked) (e : w
 
   host-plans : w .number ≡ 0 → (page : List ℕ) (place : ℕ) (f : Filed) → filed (w .model) page place ≡ f
       → hostReply sheet page place ≡ record { number = f .number; page = f .page }
-  unfolding walked hostCalls onModel planned
+  unfolding walked hostCalls onModel
   host-plans z page place f g =
       host-rule sheet .plans short (ap (λ (v : Walked). v .number) e ∙ z) page place
       ∙ ap (λ (v : Walked). record { number = filed (v .model) page place .number; page = filed (v .model) page place .page }) e
       ∙ ap (λ (q : Filed). record { number = q .number; page = q .page }) g
 
+  host-line : refusedLine sheet ≡ w .line
+  unfolding walked
+  host-line = line-allowed sheet short ∙ ap (λ (v : Walked). v .line) e
+
+-- A wanted frame alone, and with an empty line after it.
+module _ (line : List ℕ) (wants : wantsFrame (asked line) ≡ true) where
+  passed : walked Closed 1 (line ∷ []) ≡ record { number = 0; line = 0; model = Closed }
+  passed = walked-pass Closed 1 line [] wants ∙ ended Closed 2
+
+  counted : walked Closed 1 (line ∷ (10 ∷ []) ∷ []) ≡ record { number = 5; line = 2; model = Closed }
+  unfolding endOf textOf saidWith saidIn saidBy readingOf askedBy asked
+  counted = walked-pass Closed 1 line ((10 ∷ []) ∷ []) wants ∙ ends-unread Closed 2 (10 ∷ []) [] refl
+
 -- ---- All of it
 
-plan-passed : walked Closed 1 (linesOf (48 ∷ 53 ∷ 10 ∷ [])) ≡ record { number = 0; line = 0; model = Closed }
-unfolding joined linesOf valueOf byteBefore endOf textOf kindOf rightLength widthsIn numberAt numbersFrom saidAs saidWith saidIn saidBy besideOf readingOf askedBy asked wantsPlan
-plan-passed = walked-pass Closed 1 (48 ∷ 53 ∷ 10 ∷ []) [] refl ∙ ended Closed 2
-
-counted-walked : walked Closed 1 (linesOf (48 ∷ 53 ∷ 10 ∷ 10 ∷ [])) ≡ record { number = 5; line = 2; model = Closed }
-unfolding joined linesOf valueOf byteBefore endOf textOf kindOf rightLength widthsIn numberAt numbersFrom saidAs saidWith saidIn saidBy besideOf readingOf askedBy asked wantsPlan
-counted-walked = walked-pass Closed 1 (48 ∷ 53 ∷ 10 ∷ []) ((10 ∷ []) ∷ []) refl ∙ ends-unread Closed 2 (10 ∷ []) [] refl
-
-counted-line : refusedLine (48 ∷ 53 ∷ 10 ∷ 10 ∷ []) ≡ 2
-unfolding refusedLine walked
-counted-line = ap (λ (v : Walked). v .line) counted-walked
-
-example-line : refusedLine exampleSheet ≡ 7
-unfolding refusedLine exampleSheet walked
-example-line = ap (λ (v : Walked). v .line) example-walked
-
 pub sheet-trials : SheetTrials
-unfolding exampleSheet joined linesOf valueOf byteBefore endOf textOf kindOf rightLength widthsIn numberAt numbersFrom saidAs saidWith saidIn saidBy besideOf readingOf askedBy asked digitOf digitsOf lineOf
+unfolding exampleSheet joined linesOf valueOf byteBefore endOf textOf kindOf rightLength widthsIn numberAt numbersFrom saidAs saidWith saidIn saidBy besideOf readingOf askedBy asked wantsFrame digitOf digitsOf lineOf
 sheet-trials = record {
-  no-machine = host-plans (48 ∷ 53 ∷ 10 ∷ []) (omega arith) _ plan-passed refl [] 1 _ (files .files-closed [] 1);
+  no-machine = host-plans (48 ∷ 53 ∷ 10 ∷ []) (omega arith) _ (passed (48 ∷ 53 ∷ 10 ∷ []) refl) refl [] 1 _ (files .files-closed [] 1);
   unclosed = host-refuses (48 ∷ 53 ∷ []) (omega arith) _ (ends-unread Closed 1 (48 ∷ 53 ∷ []) [] refl) (λ z. omega arith) [] 1;
   plan = host-plans (take 90 exampleSheet) (omega arith) _ part-walked refl (replicate 40 0) 3 _ (files .trials .sheet);
   refused = host-refuses exampleSheet (omega arith) _ example-walked (λ z. omega arith) (1 ∷ 2 ∷ []) 0;
-  line = example-line;
-  line-counted = counted-line;
+  line = host-line exampleSheet (omega arith) _ example-walked;
+  line-counted = host-line (48 ∷ 53 ∷ 10 ∷ 10 ∷ []) (omega arith) _ (counted (48 ∷ 53 ∷ 10 ∷ []) refl);
+  slack-passed = host-plans (48 ∷ 55 ∷ 10 ∷ []) (omega arith) _ (passed (48 ∷ 55 ∷ 10 ∷ []) refl) refl [] 1 _ (files .files-closed [] 1);
+  slack-counted = host-line (48 ∷ 55 ∷ 10 ∷ 10 ∷ []) (omega arith) _ (counted (48 ∷ 55 ∷ 10 ∷ []) refl);
+  slack-longer = host-refuses (48 ∷ 55 ∷ 48 ∷ 48 ∷ 10 ∷ []) (omega arith) _ (ends-unread Closed 1 (48 ∷ 55 ∷ 48 ∷ 48 ∷ 10 ∷ []) [] refl) (λ z. omega arith) [] 1;
 }

@@ -16,8 +16,8 @@ use Rattle.planner.specs.Claims.{Kept}
 use Rattle.filing.specs.Plans.{Filed, filed}
 use Rattle.filing.specs.Claims.{frameLength, FiledPlan}
 use Rattle.filing.proofs.Results.{files}
-use Rattle.calls.specs.Lines.{asked, wantsPlan}
-use Rattle.calls.specs.Calls.{Call, Plan, Line, Done, planned, onModel, replies, end}
+use Rattle.calls.specs.Lines.{asked, wantsFrame}
+use Rattle.calls.specs.Calls.{Call, Plan, Line, Reply as CallReply, Done, onModel, replies, end}
 use Rattle.host.specs.Host.{lineOnModel, callsFrom, hostCalls, lastNumber, refusedFrom, endNumber, refusedLine, endModel, hostReply}
 use Rattle.host.specs.Claims.{HostFiled, HostRule}
 use Rattle.calls.proofs.Following.{list-kept}
@@ -25,44 +25,44 @@ use Rattle.host.proofs.Walking.{Walked, walked, calls-pass, calls-next,
 
 -- ---- Every call but the last is accepted
 
-abbrev Accepted : List Reply → Type 0
-Accepted rs = (k : ℕ) → suc k < length rs → getD (map (λ (reply : Reply). reply .number) rs) k 0 ≡ 0
+abbrev Accepted : List CallReply → Type 0
+Accepted rs = (k : ℕ) → suc k < length rs → getD (map (λ (reply : CallReply). reply .number) rs) k 0 ≡ 0
 
-accepted-more : (reply : Reply) (rest : List Reply) → reply .number ≡ 0 → Accepted rest → Accepted (reply ∷ rest)
+accepted-more : (reply : CallReply) (rest : List CallReply) → reply .number ≡ 0 → Accepted rest → Accepted (reply ∷ rest)
 accepted-more reply rest e all zero h = e
 accepted-more reply rest e all (suc k) h = all k (omega arith)
 
-accepted-last : (reply : Reply) → Accepted (reply ∷ [])
+accepted-last : (reply : CallReply) → Accepted (reply ∷ [])
 accepted-last reply k h = absurd (omega arith)
 
-abbrev From : Model → List (List ℕ) → List Reply
+abbrev From : Model → List (List ℕ) → List CallReply
 From model lines = replies onModel model (callsFrom model lines)
 
 module _ (model : Model) (line : List ℕ) (lines : List (List ℕ)) where
   abbrev book : Done Model
   book = lineOnModel model line
 
-  accepted-first : book .number ≡ 0 → Accepted (From (book .next) lines)
+  accepted-first : book .reply .number ≡ 0 → Accepted (From (book .next) lines)
       → Accepted (replies onModel model (Line line [] 0 ∷ callsFrom (book .next) lines))
   unfolding replies lineOnModel
-  accepted-first = accepted-more record { number = book .number; page = book .page } (From (book .next) lines)
+  accepted-first = accepted-more (book .reply) (From (book .next) lines)
 
   accepted-only : Accepted (replies onModel model (Line line [] 0 ∷ []))
   unfolding replies lineOnModel
-  accepted-only = accepted-last record { number = book .number; page = book .page }
+  accepted-only = accepted-last (book .reply)
 
-  accepted-turn : (b : Bool) → wantsPlan (asked line) ≡ b → Accepted (From model lines) → Accepted (From (lineOnModel model line .next) lines)
+  accepted-turn : (b : Bool) → wantsFrame (asked line) ≡ b → Accepted (From model lines) → Accepted (From (lineOnModel model line .next) lines)
       → Accepted (From model (line ∷ lines))
   accepted-turn true w passed next = subst (λ (cs : List Call). Accepted (replies onModel model cs)) (sym (calls-pass model 0 line lines w)) passed
-  accepted-turn false w passed next = go (eqb (book .number) 0) refl
+  accepted-turn false w passed next = go (eqb (book .reply .number) 0) refl
     where
-      go : (c : Bool) → eqb (book .number) 0 ≡ c → Accepted (From model (line ∷ lines))
+      go : (c : Bool) → eqb (book .reply .number) 0 ≡ c → Accepted (From model (line ∷ lines))
       go true e =
-          let z = eqb-true (book .number) 0 e in
+          let z = eqb-true (book .reply .number) 0 e in
           subst (λ (cs : List Call). Accepted (replies onModel model cs)) (sym (calls-next model 0 line lines w z))
           (accepted-first z next)
       go false e =
-          subst (λ (cs : List Call). Accepted (replies onModel model cs)) (sym (calls-stop model 0 line lines w (eqb-false (book .number) 0 e)))
+          subst (λ (cs : List Call). Accepted (replies onModel model cs)) (sym (calls-stop model 0 line lines w (eqb-false (book .reply .number) 0 e)))
           accepted-only
 
 -- ---- A refused line has a number, and its refusal too
@@ -71,26 +71,26 @@ abbrev Same : Walked → Type 0
 Same w = (w .line ≡ 0) ↔ (w .number ≡ 0)
 
 module _ (model : Model) (number : ℕ) (line : List ℕ) (lines : List (List ℕ)) where
-  same-turn : (b : Bool) → wantsPlan (asked line) ≡ b → Same (walked model (suc (suc number)) lines)
+  same-turn : (b : Bool) → wantsFrame (asked line) ≡ b → Same (walked model (suc (suc number)) lines)
       → Same (walked (lineOnModel model line .next) (suc (suc number)) lines) → Same (walked model (suc number) (line ∷ lines))
   same-turn true w passed next = subst Same (sym (walked-pass model (suc number) line lines w)) passed
-  same-turn false w passed next = go (eqb (lineOnModel model line .number) 0) refl
+  same-turn false w passed next = go (eqb (lineOnModel model line .reply .number) 0) refl
     where
-      go : (c : Bool) → eqb (lineOnModel model line .number) 0 ≡ c → Same (walked model (suc number) (line ∷ lines))
-      go true e = subst Same (sym (walked-next model (suc number) line lines w (eqb-true (lineOnModel model line .number) 0 e))) next
+      go : (c : Bool) → eqb (lineOnModel model line .reply .number) 0 ≡ c → Same (walked model (suc number) (line ∷ lines))
+      go true e = subst Same (sym (walked-next model (suc number) line lines w (eqb-true (lineOnModel model line .reply .number) 0 e))) next
       go false e =
-          let n = eqb-false (lineOnModel model line .number) 0 e in
+          let n = eqb-false (lineOnModel model line .reply .number) 0 e in
           subst Same (sym (walked-stop model (suc number) line lines w n)) ((λ z. absurd (omega arith)), λ z. absurd (n z))
 
 accepted-from : (model : Model) (lines : List (List ℕ)) → Accepted (From model lines)
 accepted-from model [] = unfold callsFrom replies in λ k h. absurd (omega arith)
 accepted-from model (line ∷ lines) =
-    accepted-turn model line lines (wantsPlan (asked line)) refl (accepted-from model lines) (accepted-from (lineOnModel model line .next) lines)
+    accepted-turn model line lines (wantsFrame (asked line)) refl (accepted-from model lines) (accepted-from (lineOnModel model line .next) lines)
 
 same-from : (model : Model) (number : ℕ) (lines : List (List ℕ)) → Same (walked model (suc number) lines)
 same-from model number [] = unfold walked callsFrom refusedFrom replies lastNumber in ((λ e. refl), λ e. refl)
 same-from model number (line ∷ lines) =
-    same-turn model number line lines (wantsPlan (asked line)) refl (same-from model (suc number) lines)
+    same-turn model number line lines (wantsFrame (asked line)) refl (same-from model (suc number) lines)
     (same-from (lineOnModel model line .next) (suc number) lines)
 
 -- ---- The last call is the refused line's
@@ -102,34 +102,34 @@ EndsWith model number lines =
     → (i : ℕ) × (k ≡ number + i) × (before : List Call) × (callsFrom model lines ≡ before ++ (Line (getD lines i []) [] 0 ∷ []))
 
 module _ (model : Model) (number : ℕ) (line : List ℕ) (lines : List (List ℕ)) where
-  ends-turn : (b : Bool) → wantsPlan (asked line) ≡ b → EndsWith model (suc number) lines → EndsWith (lineOnModel model line .next) (suc number) lines
+  ends-turn : (b : Bool) → wantsFrame (asked line) ≡ b → EndsWith model (suc number) lines → EndsWith (lineOnModel model line .next) (suc number) lines
       → EndsWith model number (line ∷ lines)
   ends-turn true w passed next k e =
       let (i, at, before, same) = passed k (sym (refused-pass model (suc number) line lines w) ∙ e) in
       (suc i, omega arith, before, calls-pass model 0 line lines w ∙ same)
-  ends-turn false w passed next k e = go (eqb (lineOnModel model line .number) 0) refl
+  ends-turn false w passed next k e = go (eqb (lineOnModel model line .reply .number) 0) refl
     where
-      go : (c : Bool) → eqb (lineOnModel model line .number) 0 ≡ c
+      go : (c : Bool) → eqb (lineOnModel model line .reply .number) 0 ≡ c
           → (i : ℕ) × (k ≡ number + i) × (before : List Call) × (callsFrom model (line ∷ lines) ≡ before ++ (Line (getD (line ∷ lines) i []) [] 0 ∷ []))
       go true z =
-          let zero-is = eqb-true (lineOnModel model line .number) 0 z in
+          let zero-is = eqb-true (lineOnModel model line .reply .number) 0 z in
           let (i, at, before, same) = next k (sym (refused-next model (suc number) line lines w zero-is) ∙ e) in
           (suc i, omega arith, Line line [] 0 ∷ before, calls-next model 0 line lines w zero-is ∙ ap (λ (cs : List Call). Line line [] 0 ∷ cs) same)
       go false z =
-          let some = eqb-false (lineOnModel model line .number) 0 z in
+          let some = eqb-false (lineOnModel model line .reply .number) 0 z in
           let here = sym (refused-stop model (suc number) line lines w some) ∙ e in
           (0, omega arith, [], calls-stop model 0 line lines w some)
 
 ends-from : (model : Model) (number : ℕ) (lines : List (List ℕ)) → EndsWith model number lines
 ends-from model number [] = λ k e. absurd (none-refused model (suc number) k e)
 ends-from model number (line ∷ lines) =
-    ends-turn model number line lines (wantsPlan (asked line)) refl (ends-from model (suc number) lines)
+    ends-turn model number line lines (wantsFrame (asked line)) refl (ends-from model (suc number) lines)
     (ends-from (lineOnModel model line .next) (suc number) lines)
 
 -- ---- All of it
 
 module _ (sheet : List ℕ) where
-  abbrev numbers : List Reply
+  abbrev numbers : List CallReply
   numbers = replies onModel Closed (hostCalls sheet)
 
   number-allowed : length sheet ≤ longestSheet → endNumber sheet ≡ lastNumber numbers
@@ -140,7 +140,7 @@ module _ (sheet : List ℕ) where
   unfolding endModel
   model-allowed h = rw (le-leb (length sheet) longestSheet h, endModel)
 
-  line-allowed : length sheet ≤ longestSheet → refusedLine sheet ≡ refusedFrom Closed 1 (linesOf sheet)
+  pub line-allowed : length sheet ≤ longestSheet → refusedLine sheet ≡ refusedFrom Closed 1 (linesOf sheet)
   unfolding refusedLine
   line-allowed h = rw (le-leb (length sheet) longestSheet h, refusedLine)
 
@@ -219,10 +219,10 @@ module _ (sheet : List ℕ) where
     planned-after : length sheet ≤ longestSheet → lastNumber numbers ≡ 0
         → hostReply sheet page place
         ≡ record {
-          number = onModel (end onModel Closed (hostCalls sheet)) (Plan page place) .number;
-          page = onModel (end onModel Closed (hostCalls sheet)) (Plan page place) .page;
+          number = onModel (end onModel Closed (hostCalls sheet)) (Plan page place) .reply .number;
+          page = onModel (end onModel Closed (hostCalls sheet)) (Plan page place) .reply .page;
         }
-    unfolding onModel planned
+    unfolding onModel
     planned-after h z =
         planned-with (number-allowed h ∙ z)
         ∙ ap (λ (m : Model). record { number = filed m page place .number; page = filed m page place .page }) (model-allowed h)

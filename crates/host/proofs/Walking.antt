@@ -9,7 +9,6 @@ use borrow.Author.Tests.{le-leb, lt-leb, eq-eqb, ne-eqb}
 use lib.ListN.{length, take, drop}
 use Rattle.frame_reader.specs.Lines.{linesOf, lineEnd}
 use Rattle.frame_reader.proofs.Results.{reads}
-use Rattle.line_writer.specs.Page.{Reply}
 use Rattle.planner.specs.declared.Roster.{Roster}
 use Rattle.planner.specs.Model.{Model, Closed}
 use Rattle.planner.specs.Roster.{emptyRoster, rosterOf}
@@ -18,8 +17,8 @@ use Rattle.refusals.specs.Numbers.{numberOf}
 use Rattle.planner.specs.Claims.{Kept}
 use Rattle.calls.specs.declared.LineAnswer.{LineAnswer}
 use Rattle.host.specs.declared.Ended.{Ended}
-use Rattle.calls.specs.Lines.{asked, wantsPlan, LineReply, answeredOn, replyAs, passedOver}
-use Rattle.calls.specs.Calls.{Call, Line, Done, onModel, replies, end}
+use Rattle.calls.specs.Lines.{asked, wantsFrame, LineReply, answeredOn, replyAs, passedOver}
+use Rattle.calls.specs.Calls.{Call, Line, Reply as CallReply, Done, onModel, replies, end}
 use Rattle.host.specs.Host.{lineOnModel, callsFrom, hostCalls, lastNumber, refusedFrom, endNumber, refusedLine, endModel, endOf}
 use Rattle.calls.proofs.Following.{line-follows}
 
@@ -41,21 +40,21 @@ pub none-refused : (model : Model) (number k : ℕ) → refusedFrom model number
 unfolding refusedFrom
 none-refused model number k e = omega arith
 
-last-more : (reply : Reply) (rest : List Reply) → reply .number ≡ 0 → lastNumber (reply ∷ rest) ≡ lastNumber rest
+last-more : (reply : CallReply) (rest : List CallReply) → reply .number ≡ 0 → lastNumber (reply ∷ rest) ≡ lastNumber rest
 unfolding lastNumber
 last-more reply [] e = e
 last-more reply (next ∷ rest) e = refl
 
 module _ (model : Model) (number : ℕ) (line : List ℕ) (lines : List (List ℕ)) where
-  pub refused-pass : wantsPlan (asked line) ≡ true → refusedFrom model number (line ∷ lines) ≡ refusedFrom model (suc number) lines
+  pub refused-pass : wantsFrame (asked line) ≡ true → refusedFrom model number (line ∷ lines) ≡ refusedFrom model (suc number) lines
   unfolding refusedFrom
   refused-pass e = rw (e, refusedFrom)
 
-  pub calls-pass : wantsPlan (asked line) ≡ true → callsFrom model (line ∷ lines) ≡ callsFrom model lines
+  pub calls-pass : wantsFrame (asked line) ≡ true → callsFrom model (line ∷ lines) ≡ callsFrom model lines
   unfolding callsFrom
   calls-pass e = rw (e, callsFrom)
 
-  pub walked-pass : wantsPlan (asked line) ≡ true → walked model number (line ∷ lines) ≡ walked model (suc number) lines
+  pub walked-pass : wantsFrame (asked line) ≡ true → walked model number (line ∷ lines) ≡ walked model (suc number) lines
   unfolding walked callsFrom refusedFrom
   walked-pass e = rw (e, callsFrom, refusedFrom)
 
@@ -63,38 +62,38 @@ module _ (model : Model) (number : ℕ) (line : List ℕ) (lines : List (List �
       → _≡_ {A = Walked} (record { number = a; line = c; model = u }) (record { number = b; line = d; model = v })
   same-walk a b c d u v e f g = cc
 
-  module _ (calls : wantsPlan (asked line) ≡ false) where
+  module _ (calls : wantsFrame (asked line) ≡ false) where
     abbrev book : Done Model
     book = lineOnModel model line
 
-    module _ (e : lineOnModel model line .number ≡ 0) where
+    module _ (e : lineOnModel model line .reply .number ≡ 0) where
       pub calls-next : callsFrom model (line ∷ lines) ≡ Line line [] 0 ∷ callsFrom (lineOnModel model line .next) lines
       unfolding callsFrom
-      calls-next = rw (calls, eq-eqb (book .number) 0 e, callsFrom)
+      calls-next = rw (calls, eq-eqb (book .reply .number) 0 e, callsFrom)
 
       pub refused-next : refusedFrom model number (line ∷ lines) ≡ refusedFrom (lineOnModel model line .next) (suc number) lines
       unfolding refusedFrom
-      refused-next = rw (calls, eq-eqb (book .number) 0 e, refusedFrom)
+      refused-next = rw (calls, eq-eqb (book .reply .number) 0 e, refusedFrom)
 
       pub walked-next : walked model number (line ∷ lines) ≡ walked (lineOnModel model line .next) (suc number) lines
       unfolding walked replies end lineOnModel
       walked-next =
           same-walk _ _ _ _ _ _
           (ap (λ (cs : List Call). lastNumber (replies onModel model cs)) calls-next
-          ∙ last-more record { number = book .number; page = book .page } (replies onModel (book .next) (callsFrom (book .next) lines)) e)
+          ∙ last-more (book .reply) (replies onModel (book .next) (callsFrom (book .next) lines)) e)
           refused-next
           (ap (λ (cs : List Call). end onModel model cs) calls-next)
 
-    module _ (n : lineOnModel model line .number ≡ 0 → ⊥) where
+    module _ (n : lineOnModel model line .reply .number ≡ 0 → ⊥) where
       pub calls-stop : callsFrom model (line ∷ lines) ≡ Line line [] 0 ∷ []
       unfolding callsFrom
-      calls-stop = rw (calls, ne-eqb (book .number) 0 n, callsFrom)
+      calls-stop = rw (calls, ne-eqb (book .reply .number) 0 n, callsFrom)
 
       pub refused-stop : refusedFrom model number (line ∷ lines) ≡ number
       unfolding refusedFrom
-      refused-stop = rw (calls, ne-eqb (book .number) 0 n, refusedFrom)
+      refused-stop = rw (calls, ne-eqb (book .reply .number) 0 n, refusedFrom)
 
-      pub walked-stop : walked model number (line ∷ lines) ≡ record { number = book .number; line = number; model = book .next }
+      pub walked-stop : walked model number (line ∷ lines) ≡ record { number = book .reply .number; line = number; model = book .next }
       unfolding walked replies end lineOnModel lastNumber
       walked-stop =
           same-walk _ _ _ _ _ _
@@ -161,8 +160,8 @@ module _ (sheet : List ℕ) where
       so-split : walked Closed 1 (linesOf sheet) ≡ walked model (suc line) (first ∷ linesOf (drop next sheet))
       so-split = so-far .same ∙ ap (λ ls. walked model (suc line) ls) split
 
-      -- A wanted plan is passed over: nothing has changed.
-      module _ (wants : wantsPlan (asked first) ≡ true) where
+      -- A wanted frame is passed over: nothing has changed.
+      module _ (wants : wantsFrame (asked first) ≡ true) where
         passes : answeredOn made [] ≡ record { number = 0; roster = roster; page = []; count = 0 }
         unfolding passedOver
         passes = e ∙ rw (wants, passedOver)
@@ -177,7 +176,7 @@ module _ (sheet : List ℕ) where
         }
 
       -- Any other line is a call, on the model as well.
-      module _ (calls : wantsPlan (asked first) ≡ false) where
+      module _ (calls : wantsFrame (asked first) ≡ false) where
         abbrev done : Done Model
         done = lineOnModel model first
 
@@ -185,9 +184,9 @@ module _ (sheet : List ℕ) where
         unfolding passedOver
         called = e ∙ rw (calls, passedOver) (ap (λ (r : Roster). replyAs r (asked first) [] 0) (so-far .carried))
 
-        number-is : numberOf (made .answer) ≡ done .number
+        number-is : numberOf (made .answer) ≡ done .reply .number
         unfolding lineOnModel onModel
-        number-is = ap (λ (q : LineReply). q .number) called ∙ line-follows model (so-far .kept) (asked first) [] 0 .number
+        number-is = ap (λ (q : LineReply). q .number) called ∙ ap (λ (q : CallReply). q .number) (line-follows model (so-far .kept) (asked first) [] 0 .reply)
 
         roster-is : made .roster ≡ rosterOf (done .next)
         unfolding lineOnModel onModel
@@ -212,16 +211,16 @@ module _ (sheet : List ℕ) where
             ∙ sym (ends short ∙ ap endedBy (so-split ∙ walked-stop model (suc line) first (linesOf (drop next sheet)) calls (λ z. n (number-is ∙ z))))
 
       pub walk-next : numberOf (made .answer) ≡ 0 → (line′ : ℕ) → line′ ≡ line + 1 → Walking (made .roster) next line′
-      walk-next z line′ l = subst (λ (k : ℕ). Walking (made .roster) next k) (sym (add-one line) ∙ sym l) (go (wantsPlan (asked first)) refl)
+      walk-next z line′ l = subst (λ (k : ℕ). Walking (made .roster) next k) (sym (add-one line) ∙ sym l) (go (wantsFrame (asked first)) refl)
         where
-          go : (b : Bool) → wantsPlan (asked first) ≡ b → Walking (made .roster) next (suc line)
+          go : (b : Bool) → wantsFrame (asked first) ≡ b → Walking (made .roster) next (suc line)
           go true w = next-passed w
           go false w = next-called w z
 
       pub walk-stop : (numberOf (made .answer) ≡ 0 → ⊥) → (number′ line′ : ℕ) → number′ ≡ numberOf (made .answer) → line′ ≡ line + 1
           → record { number = number′; line = line′; roster = made .roster } ≡ endOf sheet
-      walk-stop n number′ line′ m l = same-end _ _ _ _ _ _ m (l ∙ add-one line) refl ∙ go (wantsPlan (asked first)) refl
+      walk-stop n number′ line′ m l = same-end _ _ _ _ _ _ m (l ∙ add-one line) refl ∙ go (wantsFrame (asked first)) refl
         where
-          go : (b : Bool) → wantsPlan (asked first) ≡ b → record { number = numberOf (made .answer); line = suc line; roster = made .roster } ≡ endOf sheet
+          go : (b : Bool) → wantsFrame (asked first) ≡ b → record { number = numberOf (made .answer); line = suc line; roster = made .roster } ≡ endOf sheet
           go true w = absurd (n (ap (λ (q : LineReply). q .number) (passes w)))
           go false w = stop-called w n

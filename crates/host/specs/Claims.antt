@@ -8,12 +8,11 @@ use Rattle.gmf.specs.declared.Machine.{Machine}
 use Rattle.gmf.specs.declared.Job.{Job}
 use Rattle.frame_reader.specs.Lines.{longestSheet, linesOf}
 use Rattle.frame_reader.specs.Claims.{exampleSheet}
-use Rattle.line_writer.specs.Page.{Reply}
 use Rattle.planner.specs.Model.{Closed, Opened}
 use Rattle.planner.specs.Claims.{Kept}
 use Rattle.filing.specs.Plans.{planLine}
 use Rattle.filing.specs.Claims.{frameLength, FiledPlan}
-use Rattle.calls.specs.Calls.{Call, Plan, Line, onModel, replies, end}
+use Rattle.calls.specs.Calls.{Call, Plan, Line, Reply as CallReply, onModel, replies, end}
 use Rattle.host.specs.Host.{hostCalls, lastNumber, endNumber, refusedLine, endModel, hostReply}
 
 -- The plan filed next on the host's page, from the place on, all else as lent.
@@ -34,7 +33,7 @@ pub record HostRule (sheet : List ℕ) : Type 0 where
   pub too-long : longestSheet < length sheet → (page : List ℕ) (place : ℕ) → hostReply sheet page place ≡ record { number = 5; page = page }
   -- Every call but the last is accepted.
   pub accepted : (k : ℕ) → suc k < length (replies onModel Closed (hostCalls sheet))
-      → getD (map (λ (reply : Reply). reply .number) (replies onModel Closed (hostCalls sheet))) k 0 ≡ 0
+      → getD (map (λ (reply : CallReply). reply .number) (replies onModel Closed (hostCalls sheet))) k 0 ≡ 0
   -- The last call's number where that is refused, with the page as lent; …
   pub refuses : length sheet ≤ longestSheet → (lastNumber (replies onModel Closed (hostCalls sheet)) ≡ 0 → ⊥) → (page : List ℕ) (place : ℕ)
       → hostReply sheet page place ≡ record { number = lastNumber (replies onModel Closed (hostCalls sheet)); page = page }
@@ -42,8 +41,8 @@ pub record HostRule (sheet : List ℕ) : Type 0 where
   pub plans : length sheet ≤ longestSheet → lastNumber (replies onModel Closed (hostCalls sheet)) ≡ 0 → (page : List ℕ) (place : ℕ)
       → hostReply sheet page place
       ≡ record {
-        number = onModel (end onModel Closed (hostCalls sheet)) (Plan page place) .number;
-        page = onModel (end onModel Closed (hostCalls sheet)) (Plan page place) .page;
+        number = onModel (end onModel Closed (hostCalls sheet)) (Plan page place) .reply .number;
+        page = onModel (end onModel Closed (hostCalls sheet)) (Plan page place) .reply .page;
       }
   -- "Success returns 0": then the page has exactly the plan filed next; …
   pub success : (page : List ℕ) (place : ℕ) → hostReply sheet page place .number ≡ 0 → HostFiled sheet page place
@@ -75,6 +74,10 @@ pub record SheetTrials : Type 0 where
   pub line : refusedLine exampleSheet ≡ 7
   -- 05 and an empty line: the line that is passed over counts.
   pub line-counted : refusedLine (48 ∷ 53 ∷ 10 ∷ 10 ∷ []) ≡ 2
+  -- 07 is passed over, and counts, as 05; 0700 is malformed.
+  pub slack-passed : hostReply (48 ∷ 55 ∷ 10 ∷ []) [] 1 ≡ record { number = 11; page = [] }
+  pub slack-counted : refusedLine (48 ∷ 55 ∷ 10 ∷ 10 ∷ []) ≡ 2
+  pub slack-longer : hostReply (48 ∷ 55 ∷ 48 ∷ 48 ∷ 10 ∷ []) [] 1 ≡ record { number = 5; page = [] }
 
 -- ---- All of it
 

@@ -10,28 +10,28 @@ use Rattle.planner.specs.Model.{Model, Closed}
 use Rattle.planner.specs.Roster.{rosterOf}
 use Rattle.filing.specs.Plans.{filed}
 use Rattle.host.specs.declared.Ended.{Ended}
-use Rattle.calls.specs.Lines.{asked, wantsPlan}
-use Rattle.calls.specs.Calls.{Call, Line, Done, onModel, replies, end}
+use Rattle.calls.specs.Lines.{asked, wantsFrame}
+use Rattle.calls.specs.Calls.{Call, Line, Reply as CallReply, Done, onModel, replies, end}
 
 -- A line's call on the model, lent no page.
 unfoldable pub lineOnModel : Model → List ℕ → Done Model
 lineOnModel model line = onModel model (Line line [] 0)
 
 -- "Lines are read as the desk reads them, well-formed 05 lines are passed over and never refused … The first refused line ends the call …": that
--- line is the last of the list.
+-- line is the last of the list. Frame 07 (02, 2026-01) is "… passed over by the host's call as 05 is".
 unfoldable pub callsFrom : Model → List (List ℕ) → List Call
 callsFrom model [] = []
 callsFrom model (line ∷ lines) =
-    elim (wantsPlan (asked line)) [
+    elim (wantsFrame (asked line)) [
       | true ↦ callsFrom model lines
-      | false ↦ Line line [] 0 ∷ elim (eqb (lineOnModel model line .number) 0) [ true ↦ callsFrom (lineOnModel model line .next) lines | false ↦ [] ]
+      | false ↦ Line line [] 0 ∷ elim (eqb (lineOnModel model line .reply .number) 0) [ true ↦ callsFrom (lineOnModel model line .next) lines | false ↦ [] ]
     ]
 
 unfoldable pub hostCalls : List ℕ → List Call
 hostCalls sheet = callsFrom Closed (linesOf sheet)
 
 -- The number of the last reply, 0 where there is none.
-unfoldable pub lastNumber : List Reply → ℕ
+unfoldable pub lastNumber : List CallReply → ℕ
 lastNumber [] = 0
 lastNumber (reply ∷ []) = reply .number
 lastNumber (reply ∷ next ∷ rest) = lastNumber (next ∷ rest)
@@ -40,9 +40,9 @@ lastNumber (reply ∷ next ∷ rest) = lastNumber (next ∷ rest)
 unfoldable pub refusedFrom : Model → ℕ → List (List ℕ) → ℕ
 refusedFrom model number [] = 0
 refusedFrom model number (line ∷ lines) =
-    elim (wantsPlan (asked line)) [
+    elim (wantsFrame (asked line)) [
       | true ↦ refusedFrom model (suc number) lines
-      | false ↦ elim (eqb (lineOnModel model line .number) 0) [ true ↦ refusedFrom (lineOnModel model line .next) (suc number) lines | false ↦ number ]
+      | false ↦ elim (eqb (lineOnModel model line .reply .number) 0) [ true ↦ refusedFrom (lineOnModel model line .next) (suc number) lines | false ↦ number ]
     ]
 
 -- How a sheet ends: the refusal's number or 0, the number of the refused line or 0, and the model. "A sheet too long gets 5 first."

@@ -19,6 +19,7 @@ use Rattle.planner.specs.Model.{refuseIf, isOpen, onMachine, opened, wei
 use Rattle.planner.specs.Model as model
 use Rattle.planner.specs.Roster.{emptyRoster, modelOf, rosterOf, sound, wellFormed, replied, replyTo}
 use Rattle.refusals.specs.Numbers.{refusalNumber, numberOf}
+use Rattle.planner.specs.Offers.{offered, offer}
 use Rattle.planner.specs.Calls.{outcomeNumber, after, modelNumbers, modelAfter, rosterAfter}
 use Rattle.planner.specs.Claims.{rosterWith, CallTrials, ExampleCalls, FormTrials}
 
@@ -38,7 +39,7 @@ call-trials = record {
 }
 
 pub example-calls : ExampleCalls
-unfolding euclid gcd lcm speed top window hyperperiod work works insert sortDescending largest capacity slowest raise demand holds raisesLeft raiseWhileFails step steps growing planOf cube tabulate cubes defaultTable machine oneTo jobFits has places.insert speedsFit tooLong foundNone noPlan refuseIf isOpen onMachine opened weighed admitted model.step refusalNumber outcomeNumber after
+unfolding euclid gcd lcm speed top window hyperperiod work works insert sortDescending largest capacity slowest raise demand holds raisesLeft raiseWhileFails step steps growing planOf cube tabulate cubes defaultTable machine oneTo jobFits has places.insert speedsFit tooLong foundNone noPlan refuseIf isOpen onMachine opened weighed admitted model.step refusalNumber outcomeNumber after offered offer
 example-calls = record {
   opens = (refl, refl);
   admits-1 = (refl, refl);
@@ -47,6 +48,8 @@ example-calls = record {
   admits-4 = (refl, refl);
   admits-5 = (refl, refl);
   refuses-6 = (refl, refl);
+  offers-5 = refl;
+  offers = refl;
 }
 
 pub form-trials : FormTrials

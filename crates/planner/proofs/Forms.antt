@@ -233,6 +233,11 @@ module _ (r : Roster) (entries : length (r .table) ≡ 32) (places : length (r .
 pub forms : Forms
 forms = form-rule
 
+-- The jobs in the first places.
+pub holding : (jobs : List Job) → take (length jobs) (placesOf jobs) ≡ jobs
+unfolding placesOf
+holding jobs = take-append-seam jobs (replicate (64 - length jobs) noJob)
+
 -- ---- The roster of a model
 
 module _ (M : Machine) (table : List ℕ) (jobs : List Job) (rules : Rules M table jobs) (few : length jobs ≤ 64) where
@@ -253,15 +258,11 @@ module _ (M : Machine) (table : List ℕ) (jobs : List Job) (rules : Rules M tab
   unfolding entriesOf
   in-force = rw (← size) (take-append-seam table (replicate (32 - length table) 0))
 
-  holding : take (length jobs) (placesOf jobs) ≡ jobs
-  unfolding placesOf
-  holding = take-append-seam jobs (replicate (64 - length jobs) noJob)
-
   roster-sound : IsSound roster
   unfolding rosterOf
   roster-sound = record {
     places = few;
-    rules = rw (in-force, holding) rules;
+    rules = rw (in-force, holding jobs) rules;
     unused-entries = unfold entriesOf in rw (← size) (drop-append-seam table (replicate (32 - length table) 0));
     unused-places = unfold placesOf in drop-append-seam jobs (replicate (64 - length jobs) noJob);
   }
@@ -275,7 +276,7 @@ module _ (M : Machine) (table : List ℕ) (jobs : List Job) (rules : Rules M tab
   roster-model =
       model-open roster (λ e. omega (arith, rules .machine-range .processors))
       ∙ ap (λ (l : List ℕ). Opened M l (take (length jobs) (placesOf jobs))) in-force
-      ∙ ap (Opened M table) holding
+      ∙ ap (Opened M table) (holding jobs)
 
 pub kept-form : (model : Model) → Kept model → wellFormed (rosterOf model) ≡ true
 unfolding rosterOf

@@ -8,4 +8,5 @@ pub mod Outcomes
 pub mod Replies
 pub mod Steps
 pub mod Following
+pub mod Offers
 pub mod Results

@@ -187,7 +187,7 @@ module _ (r : Roster) (entries : length (r .table) ≡ 32) (places : length (r .
     abbrev jobs : List Job
     jobs = take (r .held) (r .jobs)
 
-    is-opened : modelOf r ≡ Opened M numbers jobs
+    pub is-opened : modelOf r ≡ Opened M numbers jobs
     is-opened = model-open r (λ e. omega (arith, s .rules .machine-range .processors))
 
     pub reply-open : (call : Call) (o : Outcome) → step (Opened M numbers jobs) call ≡ o → replied r o ≡ replyTo r call
@@ -210,7 +210,7 @@ module _ (r : Roster) (entries : length (r .table) ≡ 32) (places : length (r .
     pub held-listed : listed jobs ≡ true
     held-listed = rules-listed M numbers jobs (s .rules)
 
-    held-count : length jobs ≡ r .held
+    pub held-count : length jobs ≡ r .held
     held-count = length-take-le (r .held) (r .jobs) (omega (arith, s .places))
 
     -- The roster's arrays are those of its model.
@@ -221,7 +221,7 @@ module _ (r : Roster) (entries : length (r .table) ≡ 32) (places : length (r .
     unfolding rosterOf
     entries-carried = ap (λ (q : Roster). q .table) (sym carried)
 
-    places-carried : r .jobs ≡ placesOf jobs
+    pub places-carried : r .jobs ≡ placesOf jobs
     unfolding rosterOf
     places-carried = ap (λ (q : Roster). q .jobs) (sym carried)
 
@@ -262,7 +262,7 @@ module _ (r : Roster) (entries : length (r .table) ≡ 32) (places : length (r .
               workload .load-rule .range jobs (s .rules .job-ranges) (omega (arith, room)) t (load-within jobs (s .rules .within-limit) ∙ ap Within (sym t-is))
 
           -- The load with the new job, wherever it stands.
-          load-is : loadOf more ≡ withJob t new
+          pub load-is : loadOf more ≡ withJob t new
           load-is =
               let at = before (new .id) jobs in
               ap loadOf (placing .inserts new jobs .at-place)

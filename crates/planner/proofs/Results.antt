@@ -5,6 +5,7 @@ use Rattle.planner.proofs.TestRules.{test-rule}
 use Rattle.planner.proofs.Forms.{closed-roster, forms}
 use Rattle.planner.proofs.Replies.{inspects}
 use Rattle.planner.proofs.Following.{one-call, any-roster, turns-down}
+use Rattle.planner.proofs.Offers.{offers}
 
 pub planner : Planner
 planner = record {
@@ -15,6 +16,7 @@ planner = record {
   one-call = one-call;
   any-roster = any-roster;
   turns-down = turns-down;
+  offers = offers;
   call-trials = call-trials;
   example-calls = example-calls;
   form-trials = form-trials;

@@ -1,5 +1,4 @@
 -- The tests say what 01 says.
-use Prim.Native.Nat.{_-_}
 use mathlib.Core.Path.{_≡_, refl, ap}
 use mathlib.Core.Bool.{true, false≢true}
 use mathlib.Core.List.{List}

@@ -1,5 +1,5 @@
 -- What is proved of the roster and its calls: `Planner` is all of it. Its proof is proofs/Results.antt.
-use Prim.Native.Nat.{ℕ, _-_, _≤_, _<_}
+use Prim.Native.Nat.{ℕ, _+_, _-_, _≤_, _<_}
 use mathlib.Core.Path.{_≡_}
 use mathlib.Core.Logic.{_↔_, _⊎_}
 use mathlib.Core.Bool.{true, false}
@@ -18,10 +18,12 @@ use Rattle.workload.specs.Load.{totals}
 use Rattle.power_tables.specs.Entries.{entriesOf}
 use Rattle.planner.specs.declared.Roster.{Roster}
 use Rattle.planner.specs.declared.Condition.the-variants as condition
+use Rattle.refusals.specs.declared.Refusal.the-variants.{NoPlan}
 use Rattle.refusals.specs.Numbers.{numberOf}
 use Rattle.planner.specs.Tests.{tooLong, noPlan}
-use Rattle.planner.specs.Model.{Model, Closed, Opened, Call, OpenMachine, ReplaceTable, Admit, Retire, step}
+use Rattle.planner.specs.Model.{Model, Closed, Opened, Call, OpenMachine, ReplaceTable, Admit, Retire, Outcome, refused, accepted, refuseIf, step}
 use Rattle.planner.specs.Roster.{emptyRoster, modelOf, rosterOf, wellFormed, inspected, replyTo}
+use Rattle.planner.specs.Offers.{offer, offerOn}
 use Rattle.planner.specs.Calls.{outcomeNumber, after, modelNumbers, modelAfter, rosterAfter}
 
 -- ---- The tests say what 01 says
@@ -121,6 +123,42 @@ abbrev pub TurnsDown : Type 0
 TurnsDown = (M : Machine) (table : List ℕ) (jobs : List Job) → Kept (Opened M table jobs)
     → (new : Job) → Offered jobs new → TurnedDown (answerTo (rosterOf (Opened M table jobs)) new) M jobs new
 
+-- ---- A job offered without being admitted
+
+-- By an admission an offer is refused by 17 where no plan passes.
+unfoldable pub admittedOf : Outcome → Outcome
+admittedOf (refused refusal) = refused refusal
+admittedOf (accepted Closed) = accepted Closed
+admittedOf (accepted (Opened M table jobs)) = refuseIf (noPlan M jobs) NoPlan (accepted (Opened M table jobs))
+
+-- The jobs of a roster with one more.
+pub record WithOneMore (r : Roster) (jobs : List Job) : Type 0 where
+  pub machine-range : InRange (r .machine)
+  pub size : length jobs ≡ r .held + 1
+  pub few : length jobs ≤ 64
+  pub job-ranges : Every JobInRange jobs
+  pub by-id : ByRisingId jobs
+  pub within-limit : hyperperiod jobs ≤ hyperperiodLimit
+
+pub record OfferRule (id cost period : ℕ) : Type 0 where
+  -- "… refused as 03 is, but never by 17 …": what an admission comes to is what the offer does, and 17.
+  pub as-admitted : (model : Model) → step model (Admit id cost period) ≡ admittedOf (offer model id cost period)
+  pub never-17 : (model : Model) → outcomeNumber (offer model id cost period) ≡ 17 → ⊥
+  -- On the roster of a model that calls can make it is as on the model, and never refused by 7.
+  pub follows : (model : Model) → Kept model → offerOn (rosterOf model) id cost period ≡ offer model id cost period
+  pub never-7 : (model : Model) → Kept model → outcomeNumber (offer model id cost period) ≡ 7 → ⊥
+  -- An accepted offer has the job added, and no other change.
+  pub adds : (M : Machine) (table : List ℕ) (jobs : List Job) (next : Model) → offer (Opened M table jobs) id cost period ≡ accepted next
+      → next ≡ Opened M table (insert (job id cost period) jobs)
+  -- On a roster it is the roster's machine with the jobs and one more.
+  pub one-more : (r : Roster) → length (r .table) ≡ 32 → length (r .jobs) ≡ 64
+      → (M : Machine) (table : List ℕ) (jobs : List Job) → offerOn r id cost period ≡ accepted (Opened M table jobs)
+      → (M ≡ r .machine) × WithOneMore r jobs
+  pub some-machine : (r : Roster) → offerOn r id cost period ≡ accepted Closed → ⊥
+
+abbrev pub Offers : Type 0
+Offers = (id cost period : ℕ) → OfferRule id cost period
+
 -- ---- Known results
 
 -- A roster by its machine, the first numbers of its table, its count and its first places.
@@ -196,6 +234,15 @@ pub record ExampleCalls : Type 0 where
   pub admits-4 : Does (exampleModel 3) (Admit 4 5 10) 0 (exampleModel 4)
   pub admits-5 : Does (exampleModel 4) (Admit 5 1 10) 0 (exampleModel 5)
   pub refuses-6 : Does (exampleModel 5) (Admit 6 11 10) 17 (exampleModel 5)
+  -- Offered without being admitted: the fifth job goes in, and the sixth is not refused by 17. 4 before 13; 13 before 17; 16 before 17; 11.
+  pub offers-5 : offer (exampleModel 4) 5 1 10 ≡ accepted (exampleModel 5)
+  pub offers : outcomeNumber (offer (exampleModel 5) 6 11 10)
+      ∷ outcomeNumber (offer (exampleModel 5) 1 0 10)
+      ∷ outcomeNumber (offer (exampleModel 5) 1 11 10)
+      ∷ outcomeNumber (offer (Opened (machine 1 1 1 1) (1 ∷ []) (job 1 1 4096 ∷ [])) 2 9000 4097)
+      ∷ outcomeNumber (offer Closed 0 0 0)
+      ∷ []
+      ≡ 0 ∷ 4 ∷ 13 ∷ 16 ∷ 11 ∷ []
 
 -- Rosters that keep every rule, and rosters that break one.
 pub record FormTrials : Type 0 where
@@ -244,6 +291,7 @@ pub record Planner : Type 0 where
   pub one-call : OneCall
   pub any-roster : AnyRoster
   pub turns-down : TurnsDown
+  pub offers : Offers
   pub call-trials : CallTrials
   pub example-calls : ExampleCalls
   pub form-trials : FormTrials

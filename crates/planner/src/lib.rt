@@ -9,6 +9,7 @@ ghost use Rattle.places.specs.Places.{listed, has, before};
 ghost use Rattle.workload.specs.Load as load;
 ghost use Rattle.planner.specs.Model.{OpenMachine, ReplaceTable, Admit, Retire, refused, onMachine, admitted, retired};
 ghost use Rattle.planner.specs.Roster.{emptyRoster, modelOf, inspected, replied, replyTo};
+ghost use Rattle.planner.specs.Offers.{offered, offeringAs, offeringTo};
 ghost use Rattle.planner.specs.Claims.{IsSound};
 use gmf::Job;
 use gmf::Machine;
@@ -29,6 +30,9 @@ use workload::Totals;
 use workload::Verdict;
 use workload::load_of;
 
+// The places of a roster.
+const PLACES: usize = 64;
+
 // A machine, or none, its power table, and the jobs held, by rising id. What is not used is 0.
 pub struct Roster {
     pub machine: Machine,
@@ -48,6 +52,13 @@ pub enum Condition {
 pub struct Reply {
     pub answer: Answer,
     pub roster: Roster,
+}
+
+// The answer to a job that is offered; the places with it, or as they are; and the totals with it, or none.
+pub struct Offering {
+    pub answer: Answer,
+    pub jobs: [Job; 64],
+    pub totals: Totals,
 }
 
 // How many of the first `held` jobs stand before an id: the ids rise, so each look halves what is left.
@@ -88,6 +99,22 @@ fn refuse(roster: Roster, refusal: Refusal) -> Reply
     Reply {
         answer: Answer::Refused(refusal),
         roster,
+    }
+}
+
+// A job that is turned down leaves the places as they are.
+fn turn_away(roster: Roster, refusal: Refusal) -> Offering
+    ensures { λ r. ⌜ r ≡ offeringAs roster (refused refusal) ⌝ }
+{
+    let jobs = roster.jobs;
+    Offering {
+        answer: Answer::Refused(refusal),
+        jobs,
+        totals: Totals {
+            hyperperiod: 0,
+            work: 0,
+            fit: false,
+        },
     }
 }
 
@@ -231,7 +258,7 @@ impl Roster {
         if stands_at(jobs, held, at, job.id) {
             return refuse(self, Refusal::IdHeld);
         }
-        if 64 <= held {
+        if PLACES <= held {
             return refuse(self, Refusal::PlacesFull);
         }
         let load = totals.with(job);
@@ -288,6 +315,56 @@ impl Roster {
         Reply {
             answer: Answer::Accepted,
             roster: next,
+        }
+    }
+
+    // Offers a job without admitting it: refused as an admission is, but not for want of a plan.
+    pub fn offer(self, id: u64, cost: u64, period: u64) -> Offering
+        ensures { λ r. ⌜ r ≡ offeringTo self id cost period ⌝ }
+    {
+        let condition = self.inspect();
+        match condition {
+            Condition::Damaged => turn_away(self, Refusal::Damaged),
+            Condition::Closed => turn_away(self, Refusal::NoMachine),
+            Condition::Open(totals) => {
+                if !job_fits(id, cost, period) {
+                    return turn_away(self, Refusal::JobNumbers);
+                }
+                let job = Job {
+                    id: id as u16,
+                    cost: cost as u16,
+                    period: period as u16,
+                };
+                self.weigh(job, totals)
+            }
+        }
+    }
+
+    // The places with a job in range put in by its id, and the totals with it.
+    fn weigh(self, job: Job, totals: Totals) -> Offering
+        requires { ⌜ IsSound self × (totals ≡ load.totals (take (self .held) (self .jobs))) × JobInRange job ⌝ }
+        ensures { λ r. ⌜ r ≡ offeringAs self (onMachine (modelOf self) (offered job)) ⌝ }
+    {
+        let jobs = self.jobs;
+        let held = self.held as usize;
+        let at = place_of(jobs, held, job.id);
+        if stands_at(jobs, held, at, job.id) {
+            return turn_away(self, Refusal::IdHeld);
+        }
+        if PLACES <= held {
+            return turn_away(self, Refusal::PlacesFull);
+        }
+        let load = totals.with(job);
+        match load {
+            Load::TooLong => turn_away(self, Refusal::HyperperiodTooLong),
+            Load::Within(more) => {
+                let with_it = put_in(jobs, held, at, job);
+                Offering {
+                    answer: Answer::Accepted,
+                    jobs: with_it,
+                    totals: more,
+                }
+            }
         }
     }
 }

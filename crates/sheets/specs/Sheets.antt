@@ -7,13 +7,12 @@ use lib.ListN.{length, replicate}
 use Rattle.hexadecimal.specs.Text.{lineOf}
 use Rattle.frame_reader.specs.Lines.{longestSheet, linesOf}
 use Rattle.frame_writer.specs.Frames.{refusalBytes}
-use Rattle.line_writer.specs.Page.{Reply}
 use Rattle.planner.specs.Model.{Closed}
-use Rattle.calls.specs.Calls.{Call, Line, onModel, replies}
+use Rattle.calls.specs.Calls.{Call, Line, Reply, onModel, replies}
 
--- The longest frame out with its 0A, frame 81 with 32 levels: two digits for each of its 44 bytes, and the 0A.
+-- The longest frame out with its 0A, frame 83 with 32 tests: two digits for each of its 289 bytes, and the 0A.
 abbrev pub longestFrame : ℕ
-longestFrame = 89
+longestFrame = 579
 
 -- A page with nothing on it, on which the longest frame has room.
 abbrev pub blank : List ℕ

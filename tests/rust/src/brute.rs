@@ -23,15 +23,15 @@ pub struct Met {
     pub no_job: u64,
 }
 
-struct Small {
-    m: usize,
-    l: usize,
+pub struct Small {
+    pub m: usize,
+    pub l: usize,
     b: u64,
     d: u64,
 }
 
 impl Small {
-    fn any(random: &mut Random) -> Self {
+    pub fn any(random: &mut Random) -> Self {
         let (m, l) = (random.between(1, 5) as usize, random.between(1, 6) as usize);
         let rises = l as u64 - 1;
         let d = if random.one_in(2) { random.between(1, 4) } else { random.between(1, 255 / rises.max(1)) };
@@ -39,16 +39,16 @@ impl Small {
         Small { m, l, b: b.min(256 - rises * d), d }
     }
 
-    fn speed(&self, level: usize) -> u64 {
+    pub fn speed(&self, level: usize) -> u64 {
         self.b + level as u64 * self.d
     }
 
-    fn line(&self) -> String {
+    pub fn line(&self) -> String {
         format!("01{:02X}{:02X}{:04X}{:04X}\n", self.m, self.l, self.b, self.d)
     }
 
     /// All level lists that never rise from processor 1 to m.
-    fn never_rising(&self) -> Vec<Vec<usize>> {
+    pub fn never_rising(&self) -> Vec<Vec<usize>> {
         let mut plans = vec![Vec::new()];
         for _ in 0..self.m {
             let mut longer = Vec::new();
@@ -66,7 +66,7 @@ impl Small {
     }
 
     /// Both tests of document 01, k running from 1 to the smaller of m - 1 and n.
-    fn passes(&self, plan: &[usize], works: &[u64], cycle: u64) -> bool {
+    pub fn passes(&self, plan: &[usize], works: &[u64], cycle: u64) -> bool {
         let top = self.speed(self.l - 1);
         let speeds = |count: usize| plan[..count].iter().map(|&level| self.speed(level)).sum::<u64>();
         let first =
@@ -76,7 +76,7 @@ impl Small {
 }
 
 /// The cycle by counting up, and the works from the largest.
-fn cycle_and_works(jobs: &[(u64, u64)]) -> (u64, Vec<u64>) {
+pub fn cycle_and_works(jobs: &[(u64, u64)]) -> (u64, Vec<u64>) {
     let cycle = (1..).find(|cycle| jobs.iter().all(|(_, period)| cycle % period == 0)).unwrap_or(1);
     let mut works: Vec<u64> = jobs.iter().map(|(cost, period)| cost * (cycle / period)).collect();
     works.sort_unstable_by(|a, b| b.cmp(a));
@@ -84,16 +84,16 @@ fn cycle_and_works(jobs: &[(u64, u64)]) -> (u64, Vec<u64>) {
 }
 
 /// What a plan frame says.
-struct Filed {
+pub struct Filed {
     jobs: u64,
     cycle: u64,
     power: u64,
     raises: u64,
-    levels: Vec<usize>,
+    pub levels: Vec<usize>,
 }
 
 impl Filed {
-    fn read(frame: &[u8]) -> Option<Self> {
+    pub fn read(frame: &[u8]) -> Option<Self> {
         let text = std::str::from_utf8(frame).ok()?.strip_suffix('\n')?;
         let field = |from: usize, to: usize| u64::from_str_radix(text.get(from..to)?, 16).ok();
         let levels = (24..text.len()).step_by(2).map(|place| field(place, place + 2));
@@ -109,6 +109,13 @@ impl Filed {
     }
 }
 
+/// Cost and period of a job beside others of this period; now and then one that is too heavy.
+pub fn any_job(random: &mut Random, period: u64) -> (u64, u64) {
+    let period = random.pick(&[period, period, 2 * period, 3 * period, 8]);
+    let most = period + u64::from(random.one_in(8));
+    (random.between(1, most), period)
+}
+
 /// One machine with jobs offered one after another; the text says what is wrong and on which sheet.
 pub fn case(random: &mut Random, planner: Planner, met: &mut Met) -> Result<(), String> {
     let small = Small::any(random);
@@ -120,9 +127,7 @@ pub fn case(random: &mut Random, planner: Planner, met: &mut Met) -> Result<(), 
         let mut offered = (jobs.clone(), lines.clone());
         // The first round has no job, so that the empty roster is planned too.
         if id > 0 {
-            let period = random.pick(&[period, period, 2 * period, 3 * period, 8]);
-            let most = period + u64::from(random.one_in(8));
-            let cost = random.between(1, most);
+            let (cost, period) = any_job(random, period);
             offered.0.push((cost, period));
             offered.1.push_str(&format!("03{id:04X}{cost:04X}{period:04X}\n"));
         }

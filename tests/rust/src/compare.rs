@@ -1,4 +1,5 @@
-//! The comparison of the second planner with the product: the archive's calls and the desk program.
+//! The comparison of the second planner with the product: the archive's calls, the desk program, and the program that asks the
+//! library call before every admission.
 
 use crate::archive;
 use crate::facts::Facts;
@@ -6,6 +7,7 @@ use crate::planner::astray::Astray;
 use crate::planner::desk::printed;
 use crate::planner::frames::refusal_frame;
 use crate::planner::host::{outcome, reply, write, Outcome};
+use crate::planner::library;
 use crate::planner::refusal::NO_ROOM;
 use crate::random::Random;
 use crate::shrink::shown;
@@ -176,10 +178,18 @@ fn differ_in_page(second: &Lent, product: &Lent) -> Option<Difference> {
 
 /// One desk comparison: every byte that the program prints.
 pub fn desk(program: &Path, sheet: &[u8], astray: Option<Astray>, facts: &mut Facts) -> Option<Difference> {
-    let due = printed(sheet, astray, facts);
+    differ_in_run(program, sheet, &printed(sheet, astray, facts))
+}
+
+/// One comparison of the library call, by the lines that are printed for the admissions of a sheet.
+pub fn library(program: &Path, sheet: &[u8], astray: Option<Astray>, facts: &mut Facts) -> Option<Difference> {
+    differ_in_run(program, sheet, &library::printed(sheet, astray, facts))
+}
+
+fn differ_in_run(program: &Path, sheet: &[u8], due: &[u8]) -> Option<Difference> {
     match run(program, sheet) {
         Ok(given) if given == due => None,
-        Ok(given) => differ_in_output(&due, &given),
+        Ok(given) => differ_in_output(due, &given),
         Err(fault) => differ("program", "ends with exit status 0", fault),
     }
 }
@@ -193,18 +203,31 @@ fn differ_in_output(due: &[u8], given: &[u8]) -> Option<Difference> {
     Some(Difference { second: format!("{what}:\n{}", part(due)), product: format!("{what}:\n{}", part(given)) })
 }
 
-/// Runs the desk program. The sheet is written from a second thread: the output may fill its pipe before the sheet is read.
+/// Every pipe holds so many bytes before its reader takes any.
+const PIPE: usize = 4_096;
+
+/// Runs a program on a sheet. A long sheet is written from a second thread: the output may fill its pipe before the sheet is read.
 pub fn run(program: &Path, sheet: &[u8]) -> Result<Vec<u8>, String> {
     let fault = |error: std::io::Error| error.to_string();
     let mut child = Command::new(program).stdin(Stdio::piped()).stdout(Stdio::piped()).spawn().map_err(fault)?;
-    let mut input = child.stdin.take().ok_or("no standard input")?;
+    let input = child.stdin.take().ok_or("no standard input")?;
     let mut output = child.stdout.take().ok_or("no standard output")?;
     let mut bytes = Vec::new();
-    let read = std::thread::scope(|scope| {
-        // A program that stops reading a sheet that is too long closes the pipe; its output tells whether that was right.
-        scope.spawn(move || drop(input.write_all(sheet)));
+    // The pipe ends with the sheet. A program that stops reading a sheet that is too long closes it; its output tells whether that
+    // was right.
+    let write = move || {
+        let mut input = input;
+        drop(input.write_all(sheet));
+    };
+    let read = if sheet.len() <= PIPE {
+        write();
         output.read_to_end(&mut bytes)
-    });
+    } else {
+        std::thread::scope(|scope| {
+            scope.spawn(write);
+            output.read_to_end(&mut bytes)
+        })
+    };
     read.map_err(fault)?;
     let status = child.wait().map_err(fault)?;
     if status.success() {

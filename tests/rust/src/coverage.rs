@@ -1,9 +1,11 @@
 //! The facts that a full run must have met, each one a check.
 
 use crate::brute::Met;
+use crate::brute_slack;
 use crate::compare::{Relation, WITHOUT_ROOM, WITH_ROOM};
-use crate::facts::{Due, Facts, LENGTHS, MARKS};
-use crate::planner::refusal::OF_A_LINE;
+use crate::facts::{Facts, LENGTHS, MARKS};
+use crate::planner::frames::KINDS;
+use crate::planner::refusal::{OF_A_LINE, OF_THE_CALL};
 use crate::sheets::Side;
 use crate::tally::Tally;
 
@@ -26,35 +28,44 @@ impl Table {
     }
 
     pub fn of_side(&mut self, side: Side, facts: &Facts) {
-        let name = if side == Side::Host { "host" } else { "desk" };
+        let name = side.name();
+        self.marks(side, facts);
+        if side == Side::Library {
+            for number in OF_THE_CALL {
+                self.add(format!("{name}: refusal {number}"), facts.asked[usize::from(number)]);
+            }
+            self.add(format!("{name}: no refusal"), facts.asked[0]);
+            return;
+        }
         for number in OF_A_LINE {
             self.add(format!("{name}: refusal {number}"), facts.refusals[usize::from(number)]);
-        }
-        for &(mark, due, text) in MARKS {
-            let here = match due {
-                Due::Both => true,
-                Due::Host => side == Side::Host,
-                Due::Desk => side == Side::Desk,
-            };
-            if here {
-                self.add(format!("{name}: {text}"), facts.count(mark));
-            }
         }
         if side == Side::Desk {
             for number in OF_A_LINE {
                 self.add(format!("desk: plan after refusal {number}"), facts.plans_after[usize::from(number)]);
+                self.add(format!("desk: slack after refusal {number}"), facts.slacks_after[usize::from(number)]);
             }
+            self.add("desk: least without slack of k = 1 to 31".into(), least(&facts.exact_at[1..32]));
+            self.add("desk: least met of the 256 remainders".into(), least(&facts.remainders));
         } else {
             self.add("host: least met exactly of k = 1 to 31".into(), least(&facts.met_at[1..32]));
             self.add("host: least missed by one of k = 1 to 31".into(), least(&facts.missed_at[1..32]));
         }
         self.wrong_bytes(name, facts);
-        let kinds = || (0..=255usize).filter(|kind| !(1..=5).contains(kind));
-        let met: Vec<u64> = kinds().map(|kind| facts.unknown_kinds[kind]).collect();
+        let kinds = (0..=255u8).filter(|kind| !KINDS.contains(kind));
+        let met: Vec<u64> = kinds.map(|kind| facts.unknown_kinds[usize::from(kind)]).collect();
         self.add(format!("{name}: least met of the {} unknown kinds", met.len()), least(&met));
-        for (kind, longest) in [(1, 12), (2, LENGTHS - 1), (3, 12), (4, 12), (5, 12)] {
+        for (kind, longest) in [(1, 12), (2, LENGTHS - 1), (3, 12), (4, 12), (5, 12), (7, 12)] {
             let met = least(&facts.lengths[kind][..=longest]);
             self.add(format!("{name}: least met of the lengths 0 to {longest} of kind {kind:02}"), met);
+        }
+    }
+
+    fn marks(&mut self, side: Side, facts: &Facts) {
+        for &(mark, due, text) in MARKS {
+            if due.at(side) {
+                self.add(format!("{}: {text}", side.name()), facts.count(mark));
+            }
         }
     }
 
@@ -77,13 +88,16 @@ impl Table {
         }
     }
 
-    pub fn of_brute_force(&mut self, met: &Met) {
+    pub fn of_brute_force(&mut self, met: &Met, slack_met: &brute_slack::Met) {
         self.add("brute: jobs with a plan".into(), met.accepted);
         self.add("brute: no job".into(), met.no_job);
         self.add("brute: jobs without a plan".into(), met.refused);
         self.add("brute: several plans pass".into(), met.several_plans);
         self.add("brute: a cheaper plan fails".into(), met.cheaper_fails);
         self.add("brute: a plan below the top".into(), met.below_top);
+        self.add("brute: the slack of a plan".into(), slack_met.planned);
+        self.add("brute: a job short in some test".into(), slack_met.short);
+        self.add("brute: a job that leaves no slack in test 1".into(), slack_met.exact);
     }
 
     /// Prints the table and counts each row.

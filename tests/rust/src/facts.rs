@@ -1,12 +1,32 @@
 //! What the sheets of a run really met, counted by the second planner while it reads them. The run fails where a fact never
 //! occurred.
 
-/// Where a fact has to occur.
+use crate::sheets::Side;
+
+/// Where a fact has to occur, or a wrong planner to be found.
 #[derive(Clone, Copy, PartialEq, Eq)]
 pub enum Due {
+    /// At the host and at the desk.
     Both,
     Host,
     Desk,
+    Library,
+    /// At the desk and in the library call.
+    Slack,
+    Every,
+}
+
+impl Due {
+    pub fn at(self, side: Side) -> bool {
+        match self {
+            Due::Both => side != Side::Library,
+            Due::Host => side == Side::Host,
+            Due::Desk => side == Side::Desk,
+            Due::Library => side == Side::Library,
+            Due::Slack => side != Side::Host,
+            Due::Every => true,
+        }
+    }
 }
 
 macro_rules! marks {
@@ -43,7 +63,7 @@ marks! {
     TopBeyond Both "2 with Q = 257",
     StepBeyondOneLevel Both "2 with d out of range and L = 1",
     LongestCycle Both "a plan with H = 16,777,215",
-    CycleBeyond Both "16 with H = 16,777,217",
+    CycleBeyond Every "16 with H = 16,777,217",
     NoJobs Both "a plan for no jobs",
     NoRaises Both "a plan with 0 raises for some jobs",
     MostRaises Both "a plan with 992 raises",
@@ -60,12 +80,13 @@ marks! {
     LowerCase Both "an accepted line in lower case",
     LineEmpty Both "5 with an empty line",
     LineUnclosed Both "5 with an unclosed line",
+    SlackUnclosed Both "5 with an unclosed 07",
     LineOdd Both "5 with an odd number of digits",
     OpenBeforeRange Both "12 where 1 or 2 holds too",
-    MachineBeforeRange Both "11 where 4 holds too",
-    HeldBeforeFull Both "13 where 15 holds too",
-    FullBeforeCycle Both "15 where 16 holds too",
-    CycleBeforeHeavy Both "16 where C exceeds T",
+    MachineBeforeRange Every "11 where 4 holds too",
+    HeldBeforeFull Every "13 where 15 holds too",
+    FullBeforeCycle Every "15 where 16 holds too",
+    CycleBeforeHeavy Every "16 where C exceeds T",
     ProcessorsBeforeSpeeds Both "1 where 2 holds too",
     Empty Both "a sheet of 0 bytes",
     Length65535 Both "a sheet of 65,535 bytes",
@@ -79,6 +100,48 @@ marks! {
     NoRoom Host "6 for want of room",
     Filed Host "a plan frame filed",
     PlanAfterRefusals Desk "a sheet with a plan after three refused lines",
+    SlackPassedOverEarly Host "07 passed over with no machine open",
+    SlackPassedOver Host "07 passed over with a machine open",
+    SlackAtEnd Host "a plan filed after a last line 07",
+    SlackNoMachine Desk "11 for 07",
+    SlackAfterAdmission Desk "07 right after an admission",
+    SlackAfterRetirement Desk "07 right after a retirement",
+    SlackAfterPlan Desk "07 right after 05",
+    PlanAfterSlack Desk "05 right after 07",
+    SlackTwice Desk "07 right after 07",
+    SlackOneProcessor Desk "the slack with m = 1",
+    SlackMostProcessors Desk "the slack with m = 32, the longest frame",
+    SlackNoJobs Desk "the slack for no jobs",
+    SlackFewJobs Desk "the slack of tests beyond the n-th and before the m-th",
+    SlackManyJobs Desk "the slack with more jobs than processors",
+    SlackHeld64 Desk "the slack for 64 jobs",
+    SlackLongestCycle Desk "the slack with H = 16,777,215",
+    SlackNone Desk "test k below m with ticks 0, remainder 0",
+    SlackNoneWhole Desk "whole test with ticks 0, remainder 0",
+    SlackTickMissed Desk "ticks 0, remainder Q - 1",
+    SlackTickMet Desk "ticks 1, remainder 0",
+    SlackFourBytes Desk "ticks of 2^24 or more",
+    RemainderMost Desk "remainder Q - 1 with Q from 2 to 255",
+    Remainder255 Desk "remainder 255",
+    AskedShortFirst Library "a test below m short, the whole test not",
+    AskedShortWhole Library "only the whole test short",
+    AskedExact Library "test k below m with ticks 0",
+    AskedExactWhole Library "whole test with ticks 0",
+    AskedMissed Library "test k below m with ticks -1",
+    AskedMissedWhole Library "whole test with ticks -1",
+    AskedFarShort Library "ticks below -2^32",
+    AskedHeavy Library "a job with C above T",
+    AskedFirst Library "a job on an empty roster",
+    AskedLastPlace Library "a job for the last place",
+    AskedToHeld64 Library "64 jobs held",
+    AskedFewJobs Library "fewer jobs than processors",
+    AskedManyJobs Library "more jobs than processors",
+    AskedOneProcessor Library "a job with m = 1",
+    AskedMostProcessors Library "a job with m = 32",
+    AskedTopMost Library "a job with Q = 256",
+    AskedTopLeast Library "a job with Q = 1",
+    AskedLongestCycle Library "a job with H = 16,777,215",
+    AskedCycleGrows Library "a job that makes the cycle longer",
 }
 
 /// One more than the longest kind 02 that is tried, in bytes after the kind.
@@ -92,13 +155,21 @@ pub struct Facts {
     pub refusals: [u64; 18],
     /// Desk sheets with a plan after a line refused by the number.
     pub plans_after: [u64; 18],
+    /// The same with a slack frame.
+    pub slacks_after: [u64; 18],
     /// Tests k below m met exactly by the last raise, and missed by one, at k.
     pub met_at: [u64; 33],
     pub missed_at: [u64; 33],
     pub wrong_digits: [[u64; 256]; 2],
     pub unknown_kinds: [u64; 256],
-    pub lengths: [[u64; LENGTHS]; 6],
+    pub lengths: [[u64; LENGTHS]; 8],
     pub relations: [u64; RELATIONS],
+    /// Tests k below m without any slack, at k, and the remainders in slack frames.
+    pub exact_at: [u64; 33],
+    pub remainders: [u64; 256],
+    /// Replies of the library call by their number, and those that do not fit the admission that follows.
+    pub asked: [u64; 18],
+    pub contradictions: u64,
     pub marks: [u64; MARKS.len()],
 }
 
@@ -107,12 +178,17 @@ impl Facts {
         Facts {
             refusals: [0; 18],
             plans_after: [0; 18],
+            slacks_after: [0; 18],
             met_at: [0; 33],
             missed_at: [0; 33],
             wrong_digits: [[0; 256]; 2],
             unknown_kinds: [0; 256],
-            lengths: [[0; LENGTHS]; 6],
+            lengths: [[0; LENGTHS]; 8],
             relations: [0; RELATIONS],
+            exact_at: [0; 33],
+            remainders: [0; 256],
+            asked: [0; 18],
+            contradictions: 0,
             marks: [0; MARKS.len()],
         }
     }

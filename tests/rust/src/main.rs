@@ -1,7 +1,8 @@
-//! A second planner, written from document 01 alone, compared with the product on random sheets.
+//! A second planner, written from document 01 and the requests in 02 alone, compared with the product on random sheets.
 //!
 //! `second_planner [seed]`: without a seed all fixed seeds are run, and every fact of the coverage table must have been met. The
-//! environment names the desk program in STUDIO_DESK. The last line is 'N passed, M failed'.
+//! environment names the desk program in STUDIO_DESK, and in SLACK_TRIALS the one that asks the library call before every
+//! admission. The last line is 'N passed, M failed'.
 
 #![deny(unsafe_code)]
 
@@ -9,6 +10,8 @@
 mod archive;
 #[forbid(unsafe_code)]
 mod brute;
+#[forbid(unsafe_code)]
+mod brute_slack;
 #[forbid(unsafe_code)]
 mod compare;
 #[forbid(unsafe_code)]
@@ -30,8 +33,9 @@ mod tally;
 #[forbid(unsafe_code)]
 mod trials;
 
-use facts::{Due, Facts, Mark};
+use facts::{Facts, Mark};
 use planner::astray::{Astray, ALL};
+use planner::refusal::NO_PLAN;
 use random::Random;
 use sheets::{Side, FAMILIES};
 use std::path::{Path, PathBuf};
@@ -42,9 +46,11 @@ use tally::Tally;
 /// The fixed seeds. Each one takes its share of every family.
 const SEEDS: [u64; 4] = [0x5EED_0001, 0x5EED_0002, 0x5EED_0003, 0x5EED_0004];
 const BRUTE_CASES: usize = 40_000;
+const SLACK_CASES: usize = 12_000;
 const REFUSAL_CALLS: usize = 20_000;
 const LEAST_AT_HOST: usize = 100_000;
 const LEAST_AT_DESK: usize = 10_000;
+const LEAST_AT_LIBRARY: usize = 2_000;
 
 /// In bytes: four lines of a job.
 const SMALL_SHEET: usize = 60;
@@ -65,11 +71,66 @@ const FOUND_BY_BRUTE_FORCE: [Astray; 12] = [
     Astray::LowestPowerLeftOut,
 ];
 
+/// The same for the slack.
+const SLACK_FOUND_BY_BRUTE_FORCE: [Astray; 17] = [
+    Astray::SlackBeyondLeftOut,
+    Astray::SlackByCost,
+    Astray::SlackNotSummed,
+    Astray::SlackAtTop,
+    Astray::SlackOfEarlierPlan,
+    Astray::SlackOfEarlierJobs,
+    Astray::SlackTestsLeftOut,
+    Astray::SlackByCycle,
+    Astray::SlackByLowest,
+    Astray::SlackBy256,
+    Astray::SlackUndivided,
+    Astray::SlackRoundedUp,
+    Astray::SlackRemainderFirst,
+    Astray::SlackSwapped,
+    Astray::SlackLowByteFirst,
+    Astray::AskedWithoutJob,
+    Astray::ShortAsZero,
+];
+
+/// Wrong library calls that don't go with the admission that follows.
+const FOUND_BY_ADMISSION: [Astray; 9] = [
+    Astray::SlackBeyondLeftOut,
+    Astray::AskedWithoutJob,
+    Astray::AskedAtGrownPlan,
+    Astray::AskedOldCycle,
+    Astray::ShortRefused,
+    Astray::ShortAsZero,
+    Astray::HeldAccepted,
+    Astray::FullAccepted,
+    Astray::CycleAccepted,
+];
+
+/// The product's programs.
+pub struct Programs {
+    desk: PathBuf,
+    library: PathBuf,
+}
+
+impl Programs {
+    fn named() -> Self {
+        let named = |name: &str| PathBuf::from(std::env::var_os(name).unwrap_or_default());
+        Programs { desk: named("STUDIO_DESK"), library: named("SLACK_TRIALS") }
+    }
+
+    /// The program of a side; the host's call needs none.
+    fn of(&self, side: Side) -> &Path {
+        match side {
+            Side::Host | Side::Desk => &self.desk,
+            Side::Library => &self.library,
+        }
+    }
+}
+
 fn main() -> ExitCode {
-    let program = PathBuf::from(std::env::var_os("STUDIO_DESK").unwrap_or_default());
+    let programs = Programs::named();
     let mut tally = Tally::new();
     match seeds_to_run() {
-        Ok((seeds, full)) => run(&program, &seeds, full, &mut tally),
+        Ok((seeds, full)) => run(&programs, &seeds, full, &mut tally),
         Err(fault) => tally.check(&fault, false),
     }
     println!("{} passed, {} failed", tally.passed, tally.failed);
@@ -88,14 +149,13 @@ fn seeds_to_run() -> Result<(Vec<(usize, u64)>, bool), String> {
     Ok((vec![(order, seed)], false))
 }
 
-fn run(program: &Path, seeds: &[(usize, u64)], full: bool, tally: &mut Tally) {
+fn run(programs: &Programs, seeds: &[(usize, u64)], full: bool, tally: &mut Tally) {
     let mut table = coverage::Table::new();
-    timed("trials of document 01", || trials::run_all(program, tally));
-    for side in [Side::Host, Side::Desk] {
-        let name = if side == Side::Host { "host" } else { "desk" };
-        timed(name, || {
+    timed("trials with known results", || trials::run_all(programs, tally));
+    for side in Side::ALL {
+        timed(side.name(), || {
             let mut facts = Facts::new();
-            sweep_side(side, program, seeds, full, &mut facts, tally);
+            sweep_side(side, programs.of(side), seeds, full, &mut facts, tally);
             table.of_side(side, &facts);
             if side == Side::Host {
                 table.of_pages(&facts);
@@ -108,10 +168,14 @@ fn run(program: &Path, seeds: &[(usize, u64)], full: bool, tally: &mut Tally) {
         for &(_, seed) in seeds {
             brute::run(seed, BRUTE_CASES / SEEDS.len(), tally, &mut met);
         }
-        table.of_brute_force(&met);
+        let mut slack_met = brute_slack::Met::default();
+        for &(_, seed) in seeds {
+            brute_slack::run(seed, SLACK_CASES / SEEDS.len(), tally, &mut slack_met);
+        }
+        table.of_brute_force(&met, &slack_met);
     });
     if full {
-        timed("wrong planners", || wrong_planners(program, tally));
+        timed("wrong planners", || wrong_planners(programs, tally));
         table.close(tally);
     }
 }
@@ -125,7 +189,7 @@ fn timed(name: &str, part: impl FnOnce()) {
 
 fn sweep_side(side: Side, program: &Path, seeds: &[(usize, u64)], full: bool, facts: &mut Facts, tally: &mut Tally) {
     let mut sum = 0;
-    for family in &FAMILIES {
+    for family in FAMILIES.iter().filter(|family| family.count(side) > 0) {
         let start = Instant::now();
         let compared = sweep::family(family, side, program, seeds, SEEDS.len(), facts, tally);
         let seconds = start.elapsed().as_secs_f64();
@@ -136,13 +200,25 @@ fn sweep_side(side: Side, program: &Path, seeds: &[(usize, u64)], full: bool, fa
         }
     }
     println!("{sum:>9}  sheets");
+    if side == Side::Library {
+        println!("{:>9}  jobs", facts.asked.iter().sum::<u64>());
+        tally.check("a tick is below zero exactly where 17 follows", facts.contradictions == 0);
+        tally.check("the library call never replies 17", facts.asked[usize::from(NO_PLAN)] == 0);
+    }
     if full {
-        let (least, mark, most) = match side {
-            Side::Host => (LEAST_AT_HOST, Mark::Filed, "most sheets for the host end with a plan filed"),
-            Side::Desk => (LEAST_AT_DESK, Mark::PlanAfterRefusals, "most desk sheets plan after three refused lines"),
+        let most = |mark: Mark| facts.count(mark) as usize * 2 > sum;
+        let least = match side {
+            Side::Host => {
+                tally.check("most sheets for the host end with a plan filed", most(Mark::Filed));
+                LEAST_AT_HOST
+            }
+            Side::Desk => {
+                tally.check("most desk sheets plan after three refused lines", most(Mark::PlanAfterRefusals));
+                LEAST_AT_DESK
+            }
+            Side::Library => LEAST_AT_LIBRARY,
         };
         tally.check("number of sheets", sum >= least);
-        tally.check(most, facts.count(mark) as usize * 2 > sum);
     }
 }
 
@@ -168,16 +244,14 @@ fn refusal_frames(seeds: &[(usize, u64)], tally: &mut Tally) {
     }
 }
 
-/// Each wrong planner must be found, by sheets for the host and by sheets for the desk where it shows at both.
-fn wrong_planners(program: &Path, tally: &mut Tally) {
+/// Each wrong planner must be found on every side where it shows.
+fn wrong_planners(programs: &Programs, tally: &mut Tally) {
     let mut small = 0;
     for &(astray, due, name) in ALL {
         let mut sizes = Vec::new();
-        for (side, place, other) in [(Side::Host, "host", Due::Desk), (Side::Desk, "desk", Due::Host)] {
-            if due == other {
-                continue;
-            }
-            let found = sweep::find(astray, side, program, SEEDS[0]);
+        for side in Side::ALL.into_iter().filter(|&side| due.at(side)) {
+            let place = side.name();
+            let found = sweep::find(astray, side, programs.of(side), SEEDS[0]);
             tally.check(&format!("a wrong planner is found at the {place}: {name}"), found.is_some());
             if let Some(sheet) = found {
                 small += usize::from(sheet.len() <= SMALL_SHEET);
@@ -189,8 +263,16 @@ fn wrong_planners(program: &Path, tally: &mut Tally) {
     }
     // Some need 64 jobs or the longest sheet; the others come down to a few lines where the shrinker does its work.
     tally.check("wrong planners show on small sheets", small > ALL.len());
+    for astray in FOUND_BY_ADMISSION {
+        let found = sweep::contradicts_itself(astray, SEEDS[0]);
+        tally.check(&format!("the admission contradicts a wrong library call: {astray:?}"), found);
+    }
     for astray in FOUND_BY_BRUTE_FORCE {
         let found = brute::finds(astray, SEEDS[0], 2_000);
         tally.check(&format!("the brute force finds a wrong planner: {astray:?}"), found);
+    }
+    for astray in SLACK_FOUND_BY_BRUTE_FORCE {
+        let found = brute_slack::finds(astray, SEEDS[0], 2_000);
+        tally.check(&format!("the brute force finds a wrong slack: {astray:?}"), found);
     }
 }

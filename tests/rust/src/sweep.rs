@@ -1,8 +1,10 @@
-//! The sweep over all families, on the host's call and on the desk program, and the search for wrong planners.
+//! The sweep over all families, on the host's call, the desk program and the library call, and the search for wrong planners.
 
-use crate::compare::{desk, host, Difference, Relation, WITHOUT_ROOM, WITH_ROOM};
+use crate::compare::{desk, host, library, Difference, Relation, WITHOUT_ROOM, WITH_ROOM};
 use crate::facts::Facts;
 use crate::planner::astray::Astray;
+use crate::planner::library::printed;
+use crate::planner::refusal::NO_PLAN;
 use crate::random::Random;
 use crate::sheets::{Family, Side, FAMILIES};
 use crate::shrink::{shown, shrink};
@@ -33,6 +35,7 @@ impl<'a> Trial<'a> {
         match self.side {
             Side::Host => host(sheet, &self.relations, self.seed, self.astray, facts),
             Side::Desk => desk(self.program, sheet, self.astray, facts),
+            Side::Library => library(self.program, sheet, self.astray, facts),
         }
     }
 
@@ -41,9 +44,9 @@ impl<'a> Trial<'a> {
     fn shrunk(&self, sheet: &[u8]) -> Vec<u8> {
         let budget = match (self.astray, self.side) {
             (None, Side::Host) => 200_000,
-            (None, Side::Desk) => 20_000,
+            (None, _) => 20_000,
             (_, Side::Host) => 2_000,
-            (_, Side::Desk) => 120,
+            (_, _) => 80,
         };
         shrink(sheet, budget, &mut |sheet| self.difference(sheet, &mut Facts::new()).is_some())
     }
@@ -79,7 +82,7 @@ pub fn family(
 
 fn report(family: &Family, seed: u64, index: usize, trial: &Trial, sheet: &[u8]) {
     let small = trial.shrunk(sheet);
-    let side = if trial.side == Side::Host { "host" } else { "desk" };
+    let side = trial.side.name();
     println!("DIFFERENCE at the {side}, seed {seed:#x}, family {}, sheet {index}", family.letter);
     println!("shrunk to {} bytes:\n{}", small.len(), shown(&small));
     if let Some(difference) = trial.difference(&small, &mut Facts::new()) {
@@ -88,13 +91,26 @@ fn report(family: &Family, seed: u64, index: usize, trial: &Trial, sheet: &[u8])
     }
 }
 
+/// Whether the second planner, gone astray, contradicts itself: the library call and the admission that follows it.
+pub fn contradicts_itself(astray: Astray, seed: u64) -> bool {
+    // Jobs offered that don't fit.
+    let Some(family) = FAMILIES.iter().find(|family| family.letter == 'l') else {
+        return false;
+    };
+    (0..200).any(|index| {
+        let mut facts = Facts::new();
+        printed(&family.sheet(seed, Side::Library, index), Some(astray), &mut facts);
+        facts.contradictions > 0 || facts.asked[usize::from(NO_PLAN)] > 0
+    })
+}
+
 /// Looks for a sheet of this side that tells a wrong planner from the product; returns its shrunk form.
 pub fn find(astray: Astray, side: Side, program: &Path, seed: u64) -> Option<Vec<u8>> {
     let rounds = if side == Side::Host { 1_000 } else { 200 };
     for index in 0..rounds {
         for family in &FAMILIES {
             // Long sheets are dear; a few of them do.
-            if family.letter == 'h' && index >= 48 {
+            if family.count(side) == 0 || (family.letter == 'h' && index >= 48) {
                 continue;
             }
             let sheet = family.sheet(seed, side, index);

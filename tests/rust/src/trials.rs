@@ -1,10 +1,12 @@
-//! Document 01's own numbers: the printed sheet and the trials with known results.
+//! Trials with known results: document 01's own numbers, and those of the slack, worked out by hand.
 
+use crate::brute::{product, second};
 use crate::compare::run;
 use crate::facts::Facts;
 use crate::planner::desk::printed;
+use crate::planner::library;
 use crate::tally::Tally;
-use std::path::Path;
+use crate::Programs;
 
 const SHEET: &str = "01040400010001\n030001000A000A\n0300020009000A\n0300030006000A\n0300040005000A\n\
                      0300050001000A\n030006000B000A\n05\n";
@@ -48,7 +50,112 @@ const TRIALS: &[(&str, &str, &str)] = &[
          8100 00000001 00000005 0000 00\n",
     ),
     ("an empty sheet", "", ""),
+    ("slack: 1/3 on one core", "01010400010001\n03000100010003\n07\n", "83 0000000000000000 02\n"),
+    (
+        "slack: the printed sheet",
+        "01040400010001\n030001000A000A\n0300020009000A\n0300030006000A\n0300040005000A\n0300050001000A\n\
+         030006000B000A\n07\n",
+        "8E0000000711\n83 0000000000000000 00 0000000000000001 00 0000000000000002 02 0000000000000001 02\n",
+    ),
+    (
+        "slack: no jobs",
+        "01040400010001\n07\n",
+        "83 0000000000000000 01 0000000000000000 02 0000000000000000 03 0000000000000001 00\n",
+    ),
+    (
+        "slack: one job 1/2",
+        "01040400010001\n03000100010002\n07\n",
+        "83 0000000000000000 00 0000000000000000 02 0000000000000001 00 0000000000000001 02\n",
+    ),
+    (
+        "slack: 4/4 and 1/4 on two cores",
+        "01020400010001\n03000100040004\n03000200010004\n07\n",
+        "83 0000000000000000 00 0000000000000000 00\n",
+    ),
+    (
+        "slack: two jobs 1/2 on one core",
+        "01010400010001\n03000100010002\n03000200010002\n07\n",
+        "83 0000000000000000 00\n",
+    ),
+    (
+        "slack: periods 4095 and 4096",
+        "01040400010001\n03000100010FFF\n03000200011000\n07\n",
+        "83 00000000003FEC00 00 00000000007FD801 00 0000000000BFD401 00 0000000000FFD001 00\n",
+    ),
+    ("slack: remainder 255", "01010200FF0001\n07\n", "83 0000000000000000 FF\n"),
+    (
+        "slack while jobs come and go",
+        "01010400010001\n07\n03000100010003\n07\n05\n03000200030003\n07\n03000200010003\n05\n07\n07\n040001\n\
+         040002\n07\n",
+        "83 0000000000000000 01\n83 0000000000000000 02\n8101 00000003 00000008 0001 01\n8E0000000611\n\
+         83 0000000000000000 02\n8102 00000003 0000001B 0002 02\n83 0000000000000000 01\n83 0000000000000000 01\n\
+         83 0000000000000000 01\n",
+    ),
+    (
+        "slack lines that are refused",
+        "07\n0700\n070\n7\n01010400010001\n0700\n07\n07",
+        "8E000000010B\n8E0000000205\n8E0000000305\n8E0000000405\n8E0000000605\n83 0000000000000000 01\n\
+         8E0000000805\n",
+    ),
 ];
+
+/// Name, sheet, and for each admission in it the number and the ticks of the library call.
+type Asked = (&'static str, &'static str, &'static [(u8, &'static [i64])]);
+
+const ASKED: &[Asked] = &[
+    (
+        "the printed sheet",
+        SHEET,
+        &[
+            (0, &[0, 10, 20, 30]),
+            (0, &[0, 1, 11, 21]),
+            (0, &[0, 1, 5, 15]),
+            (0, &[0, 1, 5, 10]),
+            (0, &[0, 1, 5, 9]),
+            (0, &[-1, -1, 0, -2]),
+        ],
+    ),
+    ("1/3 on one core, then 3/3", "01010400010001\n03000100010003\n03000200030003\n", &[(0, &[2]), (0, &[-1])]),
+    (
+        "jobs in order of cost over period, not of cost",
+        "01020400010001\n03000100020004\n03000200010001\n03000300030006\n",
+        &[(0, &[2, 6]), (0, &[0, 2]), (0, &[0, 0])],
+    ),
+    (
+        "refused jobs",
+        "03000000000000\n01010400010001\n03000000010001\n03000100000001\n03000100010000\n03000100011000\n\
+         0300010FFF1001\n03000200011001\n03000200010800\n",
+        &[(11, &[]), (4, &[]), (4, &[]), (4, &[]), (0, &[4_095]), (13, &[]), (16, &[]), (0, &[4_093])],
+    ),
+    (
+        "a job far beyond a long cycle",
+        "01010400010001\n03000100010FFF\n03000200011000\n030003FFFF0001\n",
+        &[(0, &[4_094]), (0, &[16_764_929]), (0, &[-1_099_209_654_271])],
+    ),
+    ("lines that are no admission", "01010400010001\n05\n07\n040001\n0300010001000\n03000100010002", &[]),
+];
+
+/// Name, sheet, reply of the host's call and the frame that it files.
+const HOST: &[(&str, &str, u32, &str)] = &[
+    ("slack lines passed over", "07\n01010400010001\n07\n03000100010003\n07\n", 0, "8101 00000003 00000008 0001 01\n"),
+    ("a slack line alone", "07\n", 11, ""),
+    ("an unclosed slack line", "01010400010001\n07", 5, ""),
+    ("a slack line too long", "01010400010001\n0700\n", 5, ""),
+    ("a slack line cut short", "01010400010001\n07\n7\n", 5, ""),
+    ("a job too many after a slack line", "01010400010001\n07\n03000100020001\n", 17, ""),
+];
+
+/// The program's line for one call: 32 entries, every remainder 0.
+fn asked_line(number: u8, ticks: &[i64]) -> String {
+    let entry = |place: usize| format!(" {} 0", ticks.get(place).copied().unwrap_or(0));
+    format!("{number}{}\n", (0..32).map(entry).collect::<String>())
+}
+
+/// 32 processors at speed 255 of 256: i of them leave i - 1 ticks and 256 - i over. The frame is the longest, and it comes often.
+fn longest_frames() -> (String, String) {
+    let tests: String = (1..=32).map(|i| format!("{:016X}{:02X}", i - 1, 256 - i)).collect();
+    (format!("01200200FF0001\n{}", "07\n".repeat(1_000)), format!("83{tests}\n").repeat(1_000))
+}
 
 fn full_roster() -> (String, String) {
     let mut sheet = String::from("01010400010001\n");
@@ -60,18 +167,35 @@ fn full_roster() -> (String, String) {
     (sheet, format!("8E000000420F\n{plan}{plan}"))
 }
 
-/// The second planner and the desk program print what document 01 says.
-pub fn run_all(program: &Path, tally: &mut Tally) {
+/// The second planner and the product's programs print what is known.
+pub fn run_all(programs: &Programs, tally: &mut Tally) {
     let (sheet, output) = full_roster();
+    let (slack_sheet, slack_output) = longest_frames();
     let long = "05\n".repeat(21_846);
-    let more =
-        [("64 jobs of 1/64", sheet.as_str(), output.as_str()), ("a sheet too long", &long[..65_537], "8E0000000005\n")];
+    let more = [
+        ("64 jobs of 1/64", sheet.as_str(), output.as_str()),
+        ("a sheet too long", &long[..65_537], "8E0000000005\n"),
+        ("the longest slack frames", &slack_sheet, &slack_output),
+    ];
     for (name, sheet, output) in TRIALS.iter().copied().chain(more) {
         // The blanks set off the fields of a frame for the reader of this file.
         let due = output.replace(' ', "").into_bytes();
-        let second = printed(sheet.as_bytes(), None, &mut Facts::new());
-        tally.check(&format!("trial, second planner: {name}"), second == due);
-        let given = run(program, sheet.as_bytes());
+        let given = printed(sheet.as_bytes(), None, &mut Facts::new());
+        tally.check(&format!("trial, second planner: {name}"), given == due);
+        let given = run(&programs.desk, sheet.as_bytes());
         tally.check(&format!("trial, desk program: {name}"), given == Ok(due));
+    }
+    for &(name, sheet, reply, frame) in HOST {
+        let due = (reply, frame.replace(' ', "").into_bytes());
+        tally
+            .check(&format!("trial of the host's call, second planner: {name}"), second(sheet.as_bytes(), None) == due);
+        tally.check(&format!("trial of the host's call: {name}"), product(sheet.as_bytes()) == due);
+    }
+    for (name, sheet, calls) in ASKED {
+        let due: String = calls.iter().map(|&(number, ticks)| asked_line(number, ticks)).collect();
+        let given = library::printed(sheet.as_bytes(), None, &mut Facts::new());
+        tally.check(&format!("trial of the library call, second planner: {name}"), given == due.as_bytes());
+        let given = run(&programs.library, sheet.as_bytes());
+        tally.check(&format!("trial of the library call, program: {name}"), given == Ok(due.into_bytes()));
     }
 }

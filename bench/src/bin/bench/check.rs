@@ -1,6 +1,6 @@
 //! Random sheets on which the two sides must agree.
 
-use crate::draft::{Draft, FULL, QUARTERS};
+use crate::draft::{Draft, FULL, LARGE, QUARTERS};
 use crate::measure::{same_call, same_frames, Desks};
 use crate::mixtures::sheet;
 use crate::random::Random;
@@ -50,7 +50,7 @@ pub fn run(sheets: u64, desks: &Desks) -> Result<(), String> {
     );
     println!("  replies: {:?}", met.replies);
     println!("the desk programs: {desk_sheets} sheets agree");
-    println!("  frames, a plan as 0: {:?}", met.frames);
+    println!("  frames, a plan as 81, slack as 83, a refusal as its number: {:?}", met.frames);
     Ok(())
 }
 
@@ -62,7 +62,21 @@ fn edges() -> Vec<Vec<u8>> {
     full.resize(FULL, b'\n');
     let longer = [&full[..], b"\n"].concat();
     let long = [&full[..], &full[..]].concat();
-    vec![Vec::new(), b"\n".to_vec(), b"05".to_vec(), full[..FULL - 1].to_vec(), vec![b'\n'; FULL], full, longer, long]
+    let mut slacks = Draft::on(LARGE);
+    slacks.fill(FULL, Draft::slack);
+    vec![
+        Vec::new(),
+        b"\n".to_vec(),
+        b"05".to_vec(),
+        b"07".to_vec(),
+        b"07\n0700\n".to_vec(),
+        full[..FULL - 1].to_vec(),
+        vec![b'\n'; FULL],
+        slacks.bytes(),
+        full,
+        longer,
+        long,
+    ]
 }
 
 impl Met {
@@ -85,7 +99,8 @@ impl Met {
     }
 }
 
-/// The line and number of each frame that the desk writes for a sheet; a plan has neither.
+/// The line and number of each frame that the desk writes for a sheet; a plan or its slack has no line, and as number
+/// the digits of its kind.
 fn frames(sheet: &[u8]) -> Vec<(usize, u32)> {
     let mut written = Vec::new();
     // Writing to a vector never fails.
@@ -93,7 +108,7 @@ fn frames(sheet: &[u8]) -> Vec<(usize, u32)> {
     let number = |digits: &str| u32::from_str_radix(digits, 16).unwrap_or(0);
     let frame = |text: &str| match text.strip_prefix("8E") {
         Some(rest) => (number(&rest[..8]) as usize, number(&rest[8..])),
-        None => (0, 0),
+        None => (0, text[..2].parse().unwrap_or(0)),
     };
     String::from_utf8_lossy(&written).lines().map(frame).collect()
 }

@@ -6,7 +6,7 @@ use crate::host_cases::{example, RAISES};
 use crate::lines::{convex_table, refused_table, Sort};
 use crate::random::Random;
 use crate::rosters::{jobs, Spread};
-use crate::sheets::{churn, plans, refused};
+use crate::sheets::{churn, filled, plans, slacks};
 use crate::turned_down::Reason;
 
 /// The sheet whose time is taken off the others': the start of a program.
@@ -16,8 +16,12 @@ pub fn all(length: usize, random: &mut Random) -> Vec<Case> {
     let mut cases = Vec::new();
     for (in_128, raises) in RAISES {
         for (spread, word) in [(Spread::Equal, "equal"), (Spread::Different, "different")] {
-            let sheet = plans(LARGE, &jobs(64, in_128, spread, random), length);
-            cases.push(Case::desk(format!("plans: 64 jobs on 32, {raises} raises, {word}"), sheet));
+            let held = jobs(64, in_128, spread, random);
+            let roster = format!("64 jobs on 32, {raises} raises, {word}");
+            cases.push(Case::desk(format!("plans: {roster}"), plans(LARGE, &held, length)));
+            if let (500, Spread::Different) = (raises, spread) {
+                cases.push(Case::desk(format!("slack: {roster}"), slacks(LARGE, &held, length)));
+            }
         }
     }
     let mut small = example();
@@ -40,9 +44,9 @@ fn jobs_turned_down(length: usize, random: &mut Random) -> Vec<Case> {
         cases.push(Case::desk(name, reason.sheet(length, random)));
     }
     let held = jobs(32, 40, Spread::Different, random);
-    let sheet = refused(LARGE, &held, length, |draft| draft.machine(LARGE));
+    let sheet = filled(LARGE, &held, length, |draft| draft.machine(LARGE));
     cases.push(Case::desk("machines refused by 12, 32 held", sheet));
-    let sheet = refused(LARGE, &held, length, |draft| loop {
+    let sheet = filled(LARGE, &held, length, |draft| loop {
         let id = random.between(1, 65_535);
         if held.iter().all(|job| job.id != id) {
             return draft.retire(id);
@@ -60,7 +64,7 @@ fn malformed(length: usize, random: &mut Random) -> Vec<Case> {
     let held = jobs(5, 40, Spread::Different, random);
     let mut cases = Vec::new();
     for sort in Sort::ALL {
-        let sheet = refused(LARGE, &held, length, |draft| draft.line(&sort.line(random)));
+        let sheet = filled(LARGE, &held, length, |draft| draft.line(&sort.line(random)));
         cases.push(Case::desk(format!("malformed: {}", sort.name()), sheet));
     }
     cases.push(Case::desk("malformed: one line", vec![b'0'; length]));
@@ -69,7 +73,7 @@ fn malformed(length: usize, random: &mut Random) -> Vec<Case> {
 
 fn tables(length: usize, random: &mut Random) -> Vec<Case> {
     let held = jobs(5, 40, Spread::Different, random);
-    let accepted = refused(LARGE, &held, length, |draft| draft.power(&convex_table(32, random)));
-    let turned_down = refused(LARGE, &held, length, |draft| draft.power(&refused_table(32, random)));
+    let accepted = filled(LARGE, &held, length, |draft| draft.power(&convex_table(32, random)));
+    let turned_down = filled(LARGE, &held, length, |draft| draft.power(&refused_table(32, random)));
     vec![Case::desk("power tables of 32 accepted", accepted), Case::desk("power tables refused by 3", turned_down)]
 }

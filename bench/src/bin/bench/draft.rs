@@ -70,6 +70,10 @@ impl Draft {
         self.line("05");
     }
 
+    pub fn slack(&mut self) {
+        self.line("07");
+    }
+
     /// Lines drawn one by one for as long as they fit into the length.
     pub fn fill(&mut self, length: usize, mut draw: impl FnMut(&mut Draft)) {
         loop {

@@ -2,6 +2,9 @@
 
 use crate::random::Random;
 
+/// The kinds that are read.
+const KINDS: [u32; 6] = [1, 2, 3, 4, 5, 7];
+
 #[derive(Clone, Copy)]
 pub enum Sort {
     Empty,
@@ -45,12 +48,12 @@ impl Sort {
                 line
             }
             Sort::UnknownKind => {
-                let kind = random.choose(&[0, 6, 7, 9, 0x10, 0x13, 0x43, 0x81, 0x8E, 0xFF]);
+                let kind = random.choose(&[0, 6, 8, 9, 0x10, 0x13, 0x43, 0x81, 0x8E, 0xFF]);
                 frame(kind, random.index(8), random)
             }
-            // Never right for any kind: 01 and 03 have 6 bytes, 02 fours, 04 two and 05 none.
-            Sort::WrongLength => frame(random.between(1, 5), random.choose(&[1, 3, 5, 7, 9, 11]), random),
-            Sort::Long => frame(random.between(1, 5), random.between(129, 1000) as usize, random),
+            // Never right for any kind: 01 and 03 have 6 bytes, 02 fours, 04 two, 05 and 07 none.
+            Sort::WrongLength => frame(random.choose(&KINDS), random.choose(&[1, 3, 5, 7, 9, 11]), random),
+            Sort::Long => frame(random.choose(&KINDS), random.between(129, 1000) as usize, random),
         }
     }
 }

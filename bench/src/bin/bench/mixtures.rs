@@ -13,14 +13,15 @@ struct Mixture {
     periods: Vec<u32>,
     /// Costs are drawn up to the period divided by this.
     divisor: u32,
-    /// One line in so many is malformed, a retirement, a plan wanted, a table, a machine.
-    rates: [u32; 5],
+    /// One line in so many is malformed, a retirement, a plan wanted, its slack wanted, a table, a machine.
+    rates: [u32; 6],
 }
 
 impl Mixture {
     fn any(random: &mut Random) -> Self {
         let rare = [3, 10, 50, 1_000_000];
-        let rates = [rare, [3, 5, 10, 40], [2, 5, 20, 100], rare, rare].map(|of| random.choose(&of));
+        let wanted = [2, 5, 20, 100];
+        let rates = [rare, [3, 5, 10, 40], wanted, wanted, rare, rare].map(|of| random.choose(&of));
         Mixture {
             machine: machine(random),
             largest_id: random.choose(&[5, 40, 80, 300, 65_535]),
@@ -31,7 +32,7 @@ impl Mixture {
     }
 
     fn draw(&self, draft: &mut Draft, random: &mut Random) {
-        let [malformed, retirement, plan, table, machine] = self.rates;
+        let [malformed, retirement, plan, slack, table, machine] = self.rates;
         if random.one_in(malformed) {
             draft.line(&random.choose(&Sort::ALL).line(random));
         } else if random.one_in(retirement) {
@@ -39,6 +40,8 @@ impl Mixture {
             draft.retire(id);
         } else if random.one_in(plan) {
             draft.plan();
+        } else if random.one_in(slack) {
+            draft.slack();
         } else if random.one_in(table) {
             self.draw_table(draft, random);
         } else if random.one_in(machine) {

@@ -6,10 +6,12 @@ use crate::rosters::{ids, small_job};
 
 /// A machine, its jobs, and as many plans wanted as the length has room for.
 pub fn plans(machine: Machine, jobs: &[Job], length: usize) -> Vec<u8> {
-    let mut draft = Draft::on(machine);
-    draft.admit_all(jobs);
-    draft.fill(length, Draft::plan);
-    draft.bytes()
+    filled(machine, jobs, length, Draft::plan)
+}
+
+/// The same with the slack of the plan wanted in place of the plan.
+pub fn slacks(machine: Machine, jobs: &[Job], length: usize) -> Vec<u8> {
+    filled(machine, jobs, length, Draft::slack)
 }
 
 /// A machine and its jobs.
@@ -43,7 +45,7 @@ pub fn churn(machine: Machine, held: usize, length: usize, random: &mut Random) 
 }
 
 /// A machine and its jobs, and after them lines that leave the roster as it is.
-pub fn refused(machine: Machine, jobs: &[Job], length: usize, line: impl FnMut(&mut Draft)) -> Vec<u8> {
+pub fn filled(machine: Machine, jobs: &[Job], length: usize, line: impl FnMut(&mut Draft)) -> Vec<u8> {
     let mut draft = Draft::on(machine);
     draft.admit_all(jobs);
     draft.fill(length, line);

@@ -70,7 +70,7 @@ impl Reason {
     /// A sheet of such jobs.
     pub fn sheet(self, length: usize, random: &mut Random) -> Vec<u8> {
         let held = self.held(random);
-        crate::sheets::refused(LARGE, &held, length, |draft| draft.admit(self.draw(&held, random)))
+        crate::sheets::filled(LARGE, &held, length, |draft| draft.admit(self.draw(&held, random)))
     }
 
     /// A sheet that ends with one such job.

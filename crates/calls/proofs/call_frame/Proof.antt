@@ -3,7 +3,7 @@ use mathlib.Core.Path.{sym, ap, _∙_}
 use borrow.Author.Needs.{needs}
 use Rattle.frame_kinds.specs.declared.Frame.{Frame}
 use Rattle.calls.specs.Lines.{askedBy, replyAs}
-use Rattle.calls.proofs.Asking.{as-malformed, as-change}
+use Rattle.calls.proofs.Asking.{as-malformed, as-change, as-filed}
 use Rattle.calls.proofs.call_frame.Statement.{statement}
 use Rattle.calls.proofs.call_frame.Tie as tie
 
@@ -73,8 +73,20 @@ changed-requires-3 c κs = search needs
 enum-told-2 : tie.Need-enum-told-2
 enum-told-2 c = search needs
 
-plan-requires : tie.Need-plan-requires
-plan-requires c κs = search needs
+file-plan-requires : tie.Need-file-plan-requires
+file-plan-requires c κs = search needs
+
+filed-requires : tie.Need-filed-requires
+filed-requires c κs = search needs
+
+enum-told-3 : tie.Need-enum-told-3
+enum-told-3 c = search needs
+
+file-slack-requires : tie.Need-file-slack-requires
+file-slack-requires c κs = search needs
+
+filed-requires-2 : tie.Need-filed-requires-2
+filed-requires-2 c κs = search needs
 
 returns : tie.Need-returns
 unfolding askedBy
@@ -123,13 +135,25 @@ same-length : tie.Need-same-length
 same-length c = search needs
 
 returns-6 : tie.Need-returns-6
-unfolding askedBy
+unfolding askedBy replyAs
 returns-6 c =
-    let p = c .before .before in
-    let t = p .before .before in
+    let f = c .before .before .before in
+    let t = f .before .before in
     let s = t .before .before .before in
-    p .plan .ensures
-    ∙ ap (λ (q : Frame). replyAs (s .args .roster) (askedBy q (s .args .numbers)) (s .args .page .now) (s .args .place)) (sym (t .enum-told2 .given .1))
+    as-filed (s .args .roster) (askedBy (s .args .frame) (s .args .numbers)) (s .args .page .now) (s .args .place) _ _ _ _ (c .filed .ensures) (f .file-plan .ensures)
+    (ap (λ (q : Frame). replyAs (s .args .roster) (askedBy q (s .args .numbers)) (s .args .page .now) (s .args .place)) (t .enum-told2 .given .1))
+
+same-length-2 : tie.Need-same-length-2
+same-length-2 c = search needs
+
+returns-7 : tie.Need-returns-7
+unfolding askedBy replyAs
+returns-7 c =
+    let f = c .before .before .before in
+    let t = f .before .before in
+    let s = t .before .before .before in
+    as-filed (s .args .roster) (askedBy (s .args .frame) (s .args .numbers)) (s .args .page .now) (s .args .place) _ _ _ _ (c .filed2 .ensures) (f .file-slack .ensures)
+    (ap (λ (q : Frame). replyAs (s .args .roster) (askedBy q (s .args .numbers)) (s .args .page .now) (s .args .place)) (t .enum-told3 .given .1))
 
 pub call-frame-spec : {M : Type 1} → statement M
 call-frame-spec =
@@ -157,11 +181,17 @@ call-frame-spec =
     retire-requires
     changed-requires-3
     enum-told-2
-    plan-requires
+    file-plan-requires
+    filed-requires
+    enum-told-3
+    file-slack-requires
+    filed-requires-2
     returns
     returns-2
     returns-3
     returns-4
     returns-5
     same-length
-    returns-6)
+    returns-6
+    same-length-2
+    returns-7)

@@ -2,7 +2,7 @@
 use mathlib.Core.Path.{_≡_, refl, sym, ap, _∙_}
 use borrow.Author.Needs.{needs}
 use Rattle.frame_kinds.specs.declared.Reading.{Reading}
-use Rattle.calls.specs.Lines.{askedBy, asked, wantsPlan, replyAs}
+use Rattle.calls.specs.Lines.{askedBy, asked, wantsFrame, replyAs}
 use Rattle.calls.proofs.Asking.{line-passed, line-called}
 use Rattle.calls.proofs.host_line.Statement.{statement}
 use Rattle.calls.proofs.host_line.Tie as tie
@@ -10,14 +10,14 @@ use Rattle.calls.proofs.host_line.Tie as tie
 read-line-requires : tie.Need-read-line-requires
 read-line-requires c κs = search needs
 
-wants-plan-requires : tie.Need-wants-plan-requires
-wants-plan-requires c κs = search needs
+wants-frame-requires : tie.Need-wants-frame-requires
+wants-frame-requires c κs = search needs
 
-is-told : (c : tie.After-wants-plan) → c .wants-plan .result ≡ wantsPlan (asked (c .before .before .before .args .line .now))
+is-told : (c : tie.After-wants-frame) → c .wants-frame .result ≡ wantsFrame (asked (c .before .before .before .args .line .now))
 unfolding asked
 is-told c =
-    c .wants-plan .ensures (c .before .read-line .result .values)
-    ∙ ap (λ (q : Reading). wantsPlan (askedBy (q .frame) (q .values))) (c .before .read-line .ensures .0)
+    c .wants-frame .ensures (c .before .read-line .result .values)
+    ∙ ap (λ (q : Reading). wantsFrame (askedBy (q .frame) (q .values))) (c .before .read-line .ensures .0)
 
 returns : tie.Need-returns
 returns c =
@@ -49,7 +49,7 @@ host-line-spec =
     tie.close
     (tie.spec
     read-line-requires
-    wants-plan-requires
+    wants-frame-requires
     returns
     slice-aggregate-call-frame
     call-frame-requires

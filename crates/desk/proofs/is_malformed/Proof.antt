@@ -26,6 +26,9 @@ enum-told-5 c = search needs
 enum-told-6 : tie.Need-enum-told-6
 enum-told-6 c = search needs
 
+enum-told-7 : tie.Need-enum-told-7
+enum-told-7 c = search needs
+
 -- Every other kind is none.
 unread : Frame → Bool
 unread frame.Malformed = true
@@ -34,6 +37,7 @@ unread (frame.Power count) = false
 unread (frame.Admit id cost period) = false
 unread (frame.Retire id) = false
 unread frame.PlanWanted = false
+unread frame.SlackWanted = false
 
 other : (f : Frame) → false ≡ unread f → (false ≡ true) ↔ (f ≡ frame.Malformed)
 unfolding unread
@@ -62,6 +66,10 @@ returns-6 : tie.Need-returns-6
 unfolding unread
 returns-6 c = other _ (sym (ap unread (c .enum-told6 .given .1)))
 
+returns-7 : tie.Need-returns-7
+unfolding unread
+returns-7 c = other _ (sym (ap unread (c .enum-told7 .given .1)))
+
 pub is-malformed-spec : {M : Type 1} → statement M
 is-malformed-spec =
     tie.close
@@ -72,9 +80,11 @@ is-malformed-spec =
     enum-told-4
     enum-told-5
     enum-told-6
+    enum-told-7
     returns
     returns-2
     returns-3
     returns-4
     returns-5
-    returns-6)
+    returns-6
+    returns-7)

@@ -3,7 +3,7 @@ use native.Mathlib.Omega.{arith}
 use mathlib.Core.Logic.{⊎-elim}
 use Rattle.hexadecimal.specs.Text.{lineOf}
 use Rattle.frame_writer.specs.Frames.{refusalBytes}
-use Rattle.filing.proofs.Written.{put-fits}
+use Rattle.filing.proofs.Written.{put-rule}
 use Rattle.desk.proofs.Filling.{settled-accepted, settled-refused}
 use borrow.Author.Needs.{needs}
 use Rattle.desk.proofs.settle.Statement.{statement}
@@ -30,7 +30,7 @@ add-result-2 c =
     let n = p .before .before in
     let s = n .before .before .before .before .before in
     ⊎-elim (λ e. omega (arith, p .put-refusal .ensures .0)) (λ h. omega (arith, p .put-refusal .ensures .0))
-    (put-fits (s .args .page .now) (s .args .place) (lineOf (refusalBytes (s .args .line) (n .number .result))))
+    (put-rule (s .args .page .now) (s .args .place) (lineOf (refusalBytes (s .args .line) (n .number .result))) .fits)
 
 returns : tie.Need-returns
 returns c =

@@ -2,6 +2,7 @@
 use mathlib.Core.Path.{_≡_, refl, sym, _∙_}
 use borrow.Author.Needs.{needs}
 use lib.ListN.{length, length-map}
+use Rattle.filing.specs.Plans.{filed, planReply}
 use Rattle.filing.proofs.Replies.{rule, reply-damaged, reply-closed, reply-open}
 use Rattle.filing.proofs.file_plan.Statement.{statement}
 use Rattle.filing.proofs.file_plan.Tie as tie
@@ -35,32 +36,35 @@ file-requires c κs =
     let k = c .before .before in
     let s = k .before .before .before .before in
     let e = sym (k .before .before .inspect .ensures) ∙ k .condition .given .1 in
-    (rule (s .args .roster) (entries s) (places s) .open-sound _ e, rule (s .args .roster) (entries s) (places s) .open-totals _ e)
+    (rule filed (s .args .roster) (entries s) (places s) .open-sound _ e, rule filed (s .args .roster) (entries s) (places s) .open-totals _ e)
 
 returns : tie.Need-returns
+unfolding planReply
 returns c =
     let t = c .before in
     let s = t .before .before .before .before in
-    reply-damaged (s .args .roster) (entries s) (places s) (s .args .page .now) (s .args .place)
+    reply-damaged filed (s .args .roster) (entries s) (places s) (s .args .page .now) (s .args .place)
     (sym (t .before .before .inspect .ensures) ∙ t .enum-told .given .1) _ (c .unfiled .ensures) refl
 
 returns-2 : tie.Need-returns-2
+unfolding planReply filed
 returns-2 c =
     let t = c .before in
     let s = t .before .before .before .before in
-    reply-closed (s .args .roster) (entries s) (places s) (s .args .page .now) (s .args .place)
+    reply-closed filed (s .args .roster) (entries s) (places s) (s .args .page .now) (s .args .place) refl
     (sym (t .before .before .inspect .ensures) ∙ t .enum-told2 .given .1) _ (c .unfiled2 .ensures) refl
 
 same-length : tie.Need-same-length
 same-length c = search needs
 
 returns-3 : tie.Need-returns-3
+unfolding planReply filed
 returns-3 c =
     let f = c .before .before in
     let k = f .before .before .before in
     let s = k .before .before .before .before in
     f .file .ensures
-    ∙ reply-open (s .args .roster) (entries s) (places s) (s .args .page .now) (s .args .place) _
+    ∙ reply-open filed (s .args .roster) (entries s) (places s) (s .args .page .now) (s .args .place) _
     (sym (k .before .before .inspect .ensures) ∙ k .condition .given .1)
 
 pub file-plan-spec : {M : Type 1} → statement M

@@ -1,10 +1,11 @@
 -- `frame_kinds::read_bytes` meets its contract: one arm for each kind, and one for those that are none.
 use mathlib.Core.Path.{_≡_, refl, ap, _∙_}
-use mathlib.Core.Logic.{⊎-elim}
+use mathlib.Core.Logic.{inl, inr, ⊎-elim}
+use Prim.Native.Nat.{ℕ, _≤_, _<_}
 use native.Mathlib.Omega.{arith}
 use lib.ListN.{getD}
-use Rattle.frame_kinds.specs.Frames.{saidAs, saidWith, readingOf}
-use Rattle.frame_kinds.proofs.Readings.{no-bytes, some-bytes, kind-zero, unknown-kind}
+use Rattle.frame_kinds.specs.Frames.{kindOf, saidAs, saidWith, readingOf}
+use Rattle.frame_kinds.proofs.Readings.{no-bytes, some-bytes, unknown-kind}
 use Rattle.frame_kinds.proofs.read_bytes.Statement.{statement}
 use Rattle.frame_kinds.proofs.read_bytes.Tie as tie
 
@@ -38,8 +39,11 @@ admit-requires c κs = tt
 retire-requires : tie.Need-retire-requires
 retire-requires c κs = tt
 
-plan-wanted-requires : tie.Need-plan-wanted-requires
-plan-wanted-requires c κs = tt
+wanted-requires : tie.Need-wanted-requires
+wanted-requires c κs = tt
+
+wanted-requires-2 : tie.Need-wanted-requires-2
+wanted-requires-2 c κs = tt
 
 alone-requires-2 : tie.Need-alone-requires-2
 alone-requires-2 c κs = tt
@@ -57,17 +61,34 @@ returns-5 : tie.Need-returns-5
 returns-5 c = c .retire .ensures ∙ ap readingOf (some-bytes _ 4 (omega arith) (c .before .match .keys4))
 
 returns-6 : tie.Need-returns-6
-returns-6 c = c .plan-wanted .ensures ∙ ap readingOf (some-bytes _ 5 (omega arith) (c .before .match .keys5))
+unfolding kindOf
+returns-6 c = c .wanted .ensures 5 refl ∙ ap readingOf (some-bytes _ 5 (omega arith) (c .before .match .keys5))
 
 returns-7 : tie.Need-returns-7
-returns-7 c =
+unfolding kindOf
+returns-7 c = c .wanted2 .ensures 7 refl ∙ ap readingOf (some-bytes _ 7 (omega arith) (c .before .match .keys6))
+
+-- A number that is at least k and is not k.
+past : {k n : ℕ} → k ≤ n → (n ≡ k → ⊥) → k < n
+past h other = omega arith
+
+returns-8 : tie.Need-returns-8
+returns-8 c =
     let frame = c .before .before .before .before .before .before .args .bytes .now in
-    let none : readingOf (saidAs (getD frame 0 0) _) ≡ readingOf (saidWith frame) = ap readingOf (some-bytes frame (getD frame 0 0) (omega arith) refl) in
+    let kind = getD frame 0 0 in
+    let same : readingOf (saidAs kind _) ≡ readingOf (saidWith frame) = ap readingOf (some-bytes frame kind (omega arith) refl) in
     c .alone2 .ensures
-    ∙ ⊎-elim
-    (λ k. kind-zero _ ∙ ap readingOf (some-bytes frame 0 (omega arith) (k .keys6)))
-    (λ m. let r = m .rest in unknown-kind _ _ (r .0 .0 .0 .0 .0 .1) (r .0 .0 .0 .0 .1) (r .0 .0 .0 .1) (r .0 .0 .1) (r .0 .1) ∙ none)
-    (c .before .match .came)
+    ∙ unknown-kind kind _
+    (⊎-elim
+    (λ k. ⊎-elim inl (λ e. inr (inl e)) (k .keys7))
+    (λ m.
+    let r = m .rest in
+    let first : 0 ≤ kind = omega arith in
+    let three : 2 < kind = past (past (past first (λ e. r .1 (inl e))) (r .0 .0 .0 .0 .0 .0 .1)) (r .0 .0 .0 .0 .0 .1) in
+    let six : 5 < kind = past (past (past three (r .0 .0 .0 .0 .1)) (r .0 .0 .0 .1)) (r .0 .0 .1) in
+    inr (inr (past (past six (λ e. r .1 (inr e))) (r .0 .1))))
+    (c .before .match .came))
+    ∙ same
 
 pub read-bytes-spec : {M : Type 1} → statement M
 read-bytes-spec =
@@ -83,11 +104,13 @@ read-bytes-spec =
     power-requires
     admit-requires
     retire-requires
-    plan-wanted-requires
+    wanted-requires
+    wanted-requires-2
     alone-requires-2
     returns-2
     returns-3
     returns-4
     returns-5
     returns-6
-    returns-7)
+    returns-7
+    returns-8)

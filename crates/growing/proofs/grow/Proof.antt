@@ -20,7 +20,7 @@ use Rattle.workload.specs.Load.{totals}
 use Rattle.workload.specs.declared.Verdict.the-variants.{SomePlan}
 use Rattle.growing.specs.Plan.{planFrom}
 use Rattle.growing.proofs.Raises.{Grows}
-use Rattle.growing.proofs.Works.{Given, Told, Asks, Ready, ready-same, work-most, next-range, work-more-most, ready-taken, ready-small, ready-last}
+use Rattle.growing.proofs.Works.{Given, Told, Asks, Ready, ready-same, work-most, work-more-most, ready-taken, ready-small, ready-last}
 use Rattle.growing.proofs.Loops.{Outer, Inner, outer-begin, inner-begin, supply-bound, raises-bound, outer-next, step-none, grown-more, inner-next, inner-up, finished}
 use Rattle.growing.proofs.grow.Statement.{statement}
 use Rattle.growing.proofs.grow.Tie as tie
@@ -222,9 +222,7 @@ not-small : (c : Took) → turn-at c .growing .small ≡ false
 not-small c = not-true (turn-at c .growing .small) (c .before .if2 .taken)
 
 work-of-requires : tie.Need-work-of-requires Inv-raising μ-raising Inv-growing μ-growing
-work-of-requires c κs =
-    let t = turn-at c in
-    next-range _ _ (given (begin t)) _ 0 _ _ _ (told t (more c)) (more c) (not-small c) (c .next-job .result) 0 (c .next-job .ensures)
+work-of-requires c κs = search needs
 
 sums : (c : tie.After-work-of Inv-raising μ-raising Inv-growing μ-growing) → turn-at (c .before) .growing .taken + c .work-of .result ≤ 64 * 65535 * hyperperiodLimit
 sums c =

@@ -1,4 +1,5 @@
-//! Wrong planners. Each leaves document 01 in one point, and a comparison worth its name finds every one of them.
+//! Wrong planners. Each leaves document 01 or request 2026-01 in one point, and a comparison worth its name finds every one of
+//! them.
 
 use crate::facts::Due;
 
@@ -6,7 +7,7 @@ macro_rules! wrong_planners {
     ($($astray:ident $due:ident $name:literal,)*) => {
         #[derive(Clone, Copy, PartialEq, Eq, Debug)]
         pub enum Astray { $($astray),* }
-        /// Each wrong planner with the side on which it shows.
+        /// Each wrong planner with the sides on which it shows.
         pub const ALL: &[(Astray, Due, &str)] = &[$((Astray::$astray, Due::$due, $name)),*];
     };
 }
@@ -17,20 +18,20 @@ wrong_planners! {
     BeyondLeftOut Both "leaving jobs beyond the m-th out of the last test",
     MeanSpeed Both "taking the mean speed everywhere",
     HighestOfEquals Both "raising the highest-numbered of equals",
-    OldCycle Both "keeping the old H after a retirement",
+    OldCycle Every "keeping the old H after a retirement",
     EqualityFails Both "failing a test met exactly",
     RaisesOffByOne Both "counting one raise too many",
     OneRaiseMore Both "raising once more than a test needs",
     LastTestOnly Both "growing for the last test only",
     EveryCoreAtTop Both "running every core at top speed",
     FirstPlanRepeated Both "repeating the plan of the first job",
-    FullBeforeHeld Both "15 before 13",
-    CycleBeforeFull Both "16 before 15",
-    HeavyBeforeCycle Both "17 before 16",
+    FullBeforeHeld Every "15 before 13",
+    CycleBeforeFull Every "16 before 15",
+    HeavyBeforeCycle Every "17 before 16",
     RangeBeforeOpen Both "1 and 2 before 12",
-    RangeBeforeMachine Both "4 before 11",
+    RangeBeforeMachine Every "4 before 11",
     RoomBeforeMachine Host "6 before 11",
-    SixtyThreePlaces Both "63 places",
+    SixtyThreePlaces Every "63 places",
     PlaceNeverReused Both "a retired job's place never used again",
     RefusalEmptiesRoster Desk "a refused line empties the roster",
     HeavyJobKept Desk "a job refused by 17 stays on the roster",
@@ -41,9 +42,9 @@ wrong_planners! {
     RisesUnchecked Both "a shrinking rise accepted",
     FallAccepted Both "a fall by one accepted",
     ValueBeyondAccepted Both "a value of 16,777,217 accepted",
-    CycleBeyondAccepted Both "H of 16,777,217 accepted",
-    CycleLimitShort Both "H of 16,777,215 refused",
-    HeavyCostOutOfRange Both "4 where C exceeds T",
+    CycleBeyondAccepted Every "H of 16,777,217 accepted",
+    CycleLimitShort Every "H of 16,777,215 refused",
+    HeavyCostOutOfRange Every "4 where C exceeds T",
     StepFreeAtOneLevel Both "any step accepted with one level",
     TopBeyondAccepted Both "a top speed of 257 accepted",
     PlanLineRefused Host "11 for a plan line in the host's call",
@@ -62,4 +63,37 @@ wrong_planners! {
     PlaceIgnored Host "a frame written from the page's start",
     NoRoomForLineEnd Host "a page one byte short accepted",
     LowerCaseWritten Both "frames written in lower case",
+    SlackLineMalformed Both "5 for a slack line",
+    SlackLineLonger Both "bytes after kind 07 accepted",
+    SlackLineRefused Host "11 for a slack line in the host's call",
+    SlackFiled Host "frame 83 filed for a slack line at the end",
+    SlackBeforeMachine Desk "a slack line without a machine passed over",
+    SlackChangesRoster Desk "a slack line retires a job",
+    SlackBeyondLeftOut Slack "the slack of test m with m works",
+    SlackByCost Slack "the slack with works ordered by cost",
+    SlackNotSummed Slack "the slack of each processor by itself",
+    SlackAtTop Desk "the slack with every core at top speed",
+    SlackOfEarlierPlan Desk "the slack under the plan before the last admission",
+    SlackOfEarlierJobs Desk "the slack of the jobs before the last admission",
+    SlackTestsLeftOut Desk "no slack for tests beyond the n-th and before the m-th",
+    SlackByCycle Slack "the slack divided by H",
+    SlackByLowest Slack "the slack divided by the lowest speed",
+    SlackBy256 Slack "the slack divided by 256",
+    SlackUndivided Slack "the slack not divided",
+    SlackRoundedUp Desk "the slack's ticks rounded up",
+    SlackRemainderFirst Desk "the remainder before the ticks",
+    SlackSwapped Desk "ticks and remainder in each other's place",
+    SlackRemainderInTicks Desk "the remainder in place of the ticks' low byte",
+    SlackLowByteFirst Desk "the ticks' low byte first",
+    AskedWithoutJob Library "the slack of the roster without the job",
+    AskedAtGrownPlan Library "the slack with the job under the grown plan",
+    AskedOldCycle Library "the slack with the job in the cycle without it",
+    AskedJobEntered Library "the job asked for stays on the roster",
+    ShortRefused Library "17 where work is short",
+    ShortAsZero Library "ticks below zero as 0",
+    HeldAccepted Library "13 not looked at",
+    FullAccepted Library "15 not looked at",
+    CycleAccepted Library "16 not looked at",
+    EntriesAfterLast Library "entries after the m-th not 0",
+    RefusedEntriesSet Library "entries of a refused job not 0",
 }

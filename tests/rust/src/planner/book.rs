@@ -7,6 +7,7 @@ use super::growing::{grow, Grown};
 use super::machine::Machine;
 use super::power;
 use super::refusal::*;
+use super::slack::{self, Slack};
 use crate::facts::{Facts, Mark};
 use std::collections::{BTreeMap, BTreeSet};
 
@@ -26,6 +27,7 @@ pub struct Book {
     admitted: usize,
     old_cycle: u128,
     first_plan: Option<Grown>,
+    earlier: Vec<Job>,
 }
 
 impl Book {
@@ -41,6 +43,7 @@ impl Book {
             admitted: 0,
             old_cycle: 1,
             first_plan: None,
+            earlier: Vec::new(),
         }
     }
 
@@ -60,7 +63,7 @@ impl Book {
         self.astray == Some(astray)
     }
 
-    /// A frame 01 to 04; frame 05 is `plan`.
+    /// A frame 01 to 04; frame 05 is `plan` and frame 07 `slack`.
     pub fn take(&mut self, frame: &Frame, facts: &mut Facts) -> Result<(), Refusal> {
         match *frame {
             Frame::Machine { m, l, b, d } => {
@@ -70,7 +73,7 @@ impl Book {
             Frame::Power(ref values) => self.replace_table(values, facts),
             Frame::Admit { id, cost, period } => self.admit(Job { id, cost, period }, facts),
             Frame::Retire { id } => self.retire(id, facts),
-            Frame::Plan => self.machine.map(|_| ()).ok_or(NO_MACHINE),
+            Frame::Plan | Frame::Slack => self.machine.map(|_| ()).ok_or(NO_MACHINE),
         }
     }
 
@@ -115,10 +118,7 @@ impl Book {
     fn admit(&mut self, job: Job, facts: &mut Facts) -> Result<(), Refusal> {
         self.machine_for_job(job.id, job.cost, job.period, facts)?;
         self.place_for(&job, facts)?;
-        let cycle = least_common_multiple(self.cycle(), u128::from(job.period));
-        let mut jobs = self.jobs();
-        let position = jobs.partition_point(|held| held.id < job.id);
-        jobs.insert(position, job);
+        let (jobs, cycle) = self.with(job);
         if cycle > self.longest_cycle() {
             return self.refuse_cycle(cycle, &job, &jobs, facts);
         }
@@ -137,10 +137,19 @@ impl Book {
         }
     }
 
+    /// The jobs with one more, by rising id, and their cycle.
+    fn with(&self, job: Job) -> (Vec<Job>, u128) {
+        let mut jobs = self.jobs();
+        let position = jobs.partition_point(|held| held.id < job.id);
+        jobs.insert(position, job);
+        (jobs, least_common_multiple(self.cycle(), u128::from(job.period)))
+    }
+
     /// The job goes in by its id.
     fn enter(&mut self, job: Job, cycle: u128, grown: Grown, facts: &mut Facts) {
         facts.mark_if(self.retired.contains(&job.id), Mark::Readmitted);
         facts.mark_if(self.was_full && self.jobs.len() + 1 == MOST_JOBS, Mark::PlaceReused);
+        self.earlier = self.jobs();
         if !self.is(Astray::StoresNothing) {
             self.jobs.insert(job.id, job);
         }
@@ -231,10 +240,7 @@ impl Book {
         let machine = self.machine.ok_or(NO_MACHINE)?;
         let jobs = self.jobs();
         let cycle = self.cycle();
-        let mut grown = self.grown(&jobs, cycle, facts).unwrap_or_else(|| top_plan(&machine));
-        if let (true, Some(first)) = (self.is(Astray::FirstPlanRepeated), &self.first_plan) {
-            grown = first.clone();
-        }
+        let grown = self.plan_for(&machine, &jobs, cycle, facts);
         let total = power::total(&grown.levels, &self.table, self.astray);
         note_plan(&machine, jobs.len(), cycle, grown.raises, facts);
         let mut bytes = vec![0x81, jobs.len() as u8];
@@ -242,13 +248,93 @@ impl Book {
         bytes.extend(total.to_be_bytes());
         bytes.extend((grown.raises as u16).to_be_bytes());
         bytes.extend(grown.levels.iter().map(|&level| level as u8));
-        let frame = filed(&bytes);
-        Ok(if self.is(Astray::LowerCaseWritten) { frame.to_ascii_lowercase() } else { frame })
+        Ok(self.written(&bytes))
+    }
+
+    fn plan_for(&self, machine: &Machine, jobs: &[Job], cycle: u128, facts: &mut Facts) -> Grown {
+        match &self.first_plan {
+            Some(first) if self.is(Astray::FirstPlanRepeated) => first.clone(),
+            _ => self.grown(jobs, cycle, facts).unwrap_or_else(|| top_plan(machine)),
+        }
+    }
+
+    fn written(&self, bytes: &[u8]) -> Vec<u8> {
+        let frame = filed(bytes);
+        if self.is(Astray::LowerCaseWritten) {
+            frame.to_ascii_lowercase()
+        } else {
+            frame
+        }
+    }
+
+    /// Frame 83 with its 0A, under the plan that frame 05 would get now. Again only 11 can stand against it here.
+    pub fn slack(&self, facts: &mut Facts) -> Result<Vec<u8>, Refusal> {
+        let machine = self.machine.ok_or(NO_MACHINE)?;
+        let jobs = if self.is(Astray::SlackOfEarlierJobs) { self.earlier.clone() } else { self.jobs() };
+        let cycle = self.cycle();
+        let grown = match self.astray {
+            Some(Astray::SlackAtTop) => top_plan(&machine),
+            Some(Astray::SlackOfEarlierPlan) => self.plan_for(&machine, &self.earlier, cycle, facts),
+            _ => self.plan_for(&machine, &jobs, cycle, facts),
+        };
+        let needs = Needs::new(&machine, &jobs, cycle, self.slack_order(), facts);
+        let mut slacks = slack::of_tests(&machine, &needs, &grown.levels, self.astray);
+        if self.is(Astray::SlackTestsLeftOut) {
+            slacks.drain(jobs.len().min(slacks.len() - 1)..slacks.len() - 1);
+        }
+        if self.astray.is_none() {
+            slack::note_filed(&machine, jobs.len(), &needs, &slacks, facts);
+        }
+        Ok(self.written(&slack::frame_bytes(&slacks, self.astray)))
+    }
+
+    fn slack_order(&self) -> Option<Astray> {
+        if self.is(Astray::SlackByCost) {
+            Some(Astray::OrderByCost)
+        } else {
+            self.astray
+        }
+    }
+
+    /// The library call for a job not yet held: 11, 4, 13, 15, 16, else the slack of tests 1 to m with the job added and every
+    /// core at top speed.
+    pub fn slack_with(&self, job: Job, facts: &mut Facts) -> Result<Vec<Slack>, Refusal> {
+        let machine = self.machine_for_job(job.id, job.cost, job.period, facts)?;
+        let place = self.place_for(&job, facts);
+        match (place, self.astray) {
+            (Err(ID_HELD), Some(Astray::HeldAccepted)) | (Err(PLACES_FULL), Some(Astray::FullAccepted)) => (),
+            _ => place?,
+        }
+        let (mut jobs, mut cycle) = self.with(job);
+        if cycle > self.longest_cycle() && !self.is(Astray::CycleAccepted) {
+            return self.refuse_cycle(cycle, &job, &jobs, facts).map(|()| Vec::new());
+        }
+        let mut levels = top_plan(&machine).levels;
+        match self.astray {
+            Some(Astray::AskedWithoutJob) => (jobs, cycle) = (self.jobs(), self.cycle()),
+            Some(Astray::AskedOldCycle) => cycle = self.cycle(),
+            Some(Astray::AskedAtGrownPlan) => levels = self.plan_for(&machine, &jobs, cycle, facts).levels,
+            _ => (),
+        }
+        let needs = Needs::new(&machine, &jobs, cycle, self.slack_order(), facts);
+        facts.mark_if(cycle == LONGEST_CYCLE - 1, Mark::AskedLongestCycle);
+        facts.mark_if(self.cycle() < cycle, Mark::AskedCycleGrows);
+        Ok(slack::of_tests(&machine, &needs, &levels, self.astray))
     }
 
     /// Only a wrong planner does this.
     pub fn forget_jobs(&mut self) {
         self.jobs.clear();
+    }
+
+    /// Only a wrong planner does this.
+    pub fn forget_first(&mut self) {
+        self.jobs.pop_first();
+    }
+
+    /// Only a wrong planner does this.
+    pub fn keep(&mut self, job: Job) {
+        self.jobs.insert(job.id, job);
     }
 }
 

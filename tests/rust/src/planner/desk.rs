@@ -1,4 +1,4 @@
-//! The sheet desk: reads a sheet line by line, goes on after a refused line, and prints frames 81 and 8E.
+//! The sheet desk: reads a sheet line by line, goes on after a refused line, and prints frames 81, 83 and 8E.
 
 use super::astray::Astray;
 use super::book::Book;
@@ -19,11 +19,19 @@ pub fn printed(sheet: &[u8], astray: Option<Astray>, facts: &mut Facts) -> Vec<u
     let mut output = Vec::new();
     let mut refused = [0; 18];
     let mut planned_after = [0; 18];
+    let mut slack_after = [0; 18];
+    let mut before: &[u8] = b"";
     for (line, number) in lines(sheet, astray).iter().zip(1u32..) {
-        match reply(&mut book, line, astray, facts) {
-            Ok(frame) if frame.is_empty() => (),
+        let reply = reply(&mut book, line, astray, facts);
+        note_order(before, line, reply.is_ok(), facts);
+        before = if reply.is_ok() { line.text } else { b"" };
+        match reply {
             Ok(frame) => {
-                planned_after = refused;
+                if frame.starts_with(b"81") {
+                    planned_after = refused;
+                } else if frame.starts_with(b"83") {
+                    slack_after = refused;
+                }
                 output.extend(frame);
             }
             Err(refusal) => {
@@ -37,25 +45,52 @@ pub fn printed(sheet: &[u8], astray: Option<Astray>, facts: &mut Facts) -> Vec<u
             }
         }
     }
-    note_sheet(sheet, &refused, &planned_after, facts);
+    note_sheet(sheet, &refused, facts);
+    facts.mark_if(planned_after.iter().sum::<u32>() >= 3, Mark::PlanAfterRefusals);
+    note_after(&planned_after, &mut facts.plans_after);
+    note_after(&slack_after, &mut facts.slacks_after);
     output
 }
 
-// The facts of a whole sheet: its refused lines in all, and those before its last plan.
-fn note_sheet(sheet: &[u8], refused: &[u32; 18], planned_after: &[u32; 18], facts: &mut Facts) {
+// The facts of a slack line: refused for want of a machine, or accepted after an accepted line of another kind.
+fn note_order(before: &[u8], line: &Line, accepted: bool, facts: &mut Facts) {
+    if line.text == b"07" {
+        facts.mark_if(!accepted && line.closed, Mark::SlackNoMachine);
+        facts.mark_if(accepted && before.starts_with(b"03"), Mark::SlackAfterAdmission);
+        facts.mark_if(accepted && before.starts_with(b"04"), Mark::SlackAfterRetirement);
+        facts.mark_if(accepted && before == b"05", Mark::SlackAfterPlan);
+        facts.mark_if(accepted && before == b"07", Mark::SlackTwice);
+    }
+    facts.mark_if(accepted && line.text == b"05" && before == b"07", Mark::PlanAfterSlack);
+}
+
+// The facts of a whole sheet.
+fn note_sheet(sheet: &[u8], refused: &[u32; 18], facts: &mut Facts) {
     let none = refused.iter().all(|&count| count == 0);
     facts.mark_if(none && sheet.len() == LONGEST_SHEET, Mark::Longest);
-    facts.mark_if(planned_after.iter().sum::<u32>() >= 3, Mark::PlanAfterRefusals);
-    for (number, &count) in planned_after.iter().enumerate() {
-        facts.plans_after[number] += u64::from(count > 0);
+}
+
+// The numbers of the refused lines before a sheet's last plan, or before the last slack.
+fn note_after(refused: &[u32; 18], sheets: &mut [u64; 18]) {
+    for (sheets, &count) in sheets.iter_mut().zip(refused) {
+        *sheets += u64::from(count > 0);
     }
 }
 
-// What one line prints if it is not refused: nothing for 01 to 04, the plan for 05.
+// What one line prints if it is not refused: nothing for 01 to 04, the plan for 05, its slack for 07.
 fn reply(book: &mut Book, line: &Line, astray: Option<Astray>, facts: &mut Facts) -> Result<Vec<u8>, Refusal> {
     let frame = frame_of(line, astray, facts).ok_or(MALFORMED)?;
-    if let Frame::Plan = frame {
-        return book.plan(facts);
+    match frame {
+        Frame::Plan => return book.plan(facts),
+        Frame::Slack if astray == Some(Astray::SlackBeforeMachine) => return Ok(book.slack(facts).unwrap_or_default()),
+        Frame::Slack => {
+            let slack = book.slack(facts);
+            if astray == Some(Astray::SlackChangesRoster) {
+                book.forget_first();
+            }
+            return slack;
+        }
+        _ => (),
     }
     book.take(&frame, facts)?;
     note_accepted(line, facts);

@@ -9,7 +9,11 @@ pub enum Frame {
     Admit { id: u32, cost: u32, period: u32 },
     Retire { id: u32 },
     Plan,
+    Slack,
 }
+
+/// The kinds that are read.
+pub const KINDS: [u8; 6] = [1, 2, 3, 4, 5, 7];
 
 pub struct Line<'a> {
     pub text: &'a [u8],
@@ -45,6 +49,7 @@ pub fn lines(sheet: &[u8], astray: Option<Astray>) -> Vec<Line<'_>> {
 pub fn frame_of(line: &Line, astray: Option<Astray>, facts: &mut Facts) -> Option<Frame> {
     if !line.closed {
         facts.mark(Mark::LineUnclosed);
+        facts.mark_if(line.text == b"07", Mark::SlackUnclosed);
         if astray != Some(Astray::UnclosedAccepted) {
             return None;
         }
@@ -55,7 +60,11 @@ pub fn frame_of(line: &Line, astray: Option<Astray>, facts: &mut Facts) -> Optio
     }
     let bytes = bytes_of(text, astray, facts)?;
     let (&kind, rest) = bytes.split_first()?;
-    let frame = frame_of_bytes(kind, rest);
+    let frame = match astray {
+        Some(Astray::SlackLineMalformed) if kind == 0x07 => None,
+        Some(Astray::SlackLineLonger) if kind == 0x07 => Some(Frame::Slack),
+        _ => frame_of_bytes(kind, rest),
+    };
     note_shape(kind, rest.len(), frame.is_some(), facts);
     frame
 }
@@ -106,6 +115,7 @@ fn frame_of_bytes(kind: u8, rest: &[u8]) -> Option<Frame> {
         }
         (0x04, 2) => Some(Frame::Retire { id: number(rest) }),
         (0x05, 0) => Some(Frame::Plan),
+        (0x07, 0) => Some(Frame::Slack),
         _ => None,
     }
 }
@@ -116,10 +126,10 @@ fn number(bytes: &[u8]) -> u32 {
 }
 
 fn note_shape(kind: u8, length: usize, known: bool, facts: &mut Facts) {
-    match kind {
-        1..=5 if length < LENGTHS => facts.lengths[usize::from(kind)][length] += 1,
-        1..=5 => (),
-        _ => facts.unknown_kinds[usize::from(kind)] += u64::from(!known),
+    if !KINDS.contains(&kind) {
+        facts.unknown_kinds[usize::from(kind)] += u64::from(!known);
+    } else if length < LENGTHS {
+        facts.lengths[usize::from(kind)][length] += 1;
     }
 }
 

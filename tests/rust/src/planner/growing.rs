@@ -30,7 +30,7 @@ pub fn grow(machine: &Machine, needs: &Needs, astray: Option<Astray>, facts: &mu
             note_missed(machine, need, given, &levels[..i], facts);
             raise_slowest(machine, &mut levels[..i], astray)?;
             raises += 1;
-            given = offered(machine, &levels[..i], needs.cycle);
+            given += needs.cycle * u128::from(machine.step);
         }
         if astray == Some(Astray::OneRaiseMore) && raises > before {
             raises += u32::from(raise_slowest(machine, &mut levels[..i], astray).is_some());
@@ -76,18 +76,16 @@ fn note_missed(machine: &Machine, need: u128, given: u128, levels: &[u32], facts
 
 /// Raises by one level the slowest, the lowest-numbered among equals. Nothing where all are at the top.
 fn raise_slowest(machine: &Machine, levels: &mut [u32], astray: Option<Astray>) -> Option<()> {
-    let mut slowest = 0;
-    for processor in 1..levels.len() {
-        let slower = levels[processor] < levels[slowest];
-        let equal = levels[processor] == levels[slowest];
-        if slower || (equal && astray == Some(Astray::HighestOfEquals)) {
-            slowest = processor;
-        }
-    }
-    if levels[slowest] + 1 == machine.levels {
+    let least = levels.iter().copied().min()?;
+    if least + 1 == machine.levels {
         return None;
     }
-    levels[slowest] += 1;
+    let slowest = |level: &u32| *level == least;
+    let processor = match astray {
+        Some(Astray::HighestOfEquals) => levels.iter().rposition(slowest),
+        _ => levels.iter().position(slowest),
+    };
+    levels[processor?] += 1;
     Some(())
 }
 

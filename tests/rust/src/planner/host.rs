@@ -1,4 +1,5 @@
-//! The host's call: lines as the desk reads them, plan lines passed over, an end at the first refused line, then one plan frame.
+//! The host's call: lines as the desk reads them, plan and slack lines passed over, an end at the first refused line, then one
+//! plan frame.
 
 use super::astray::Astray;
 use super::book::Book;
@@ -31,6 +32,10 @@ pub fn outcome(sheet: &[u8], astray: Option<Astray>, facts: &mut Facts) -> Outco
                 facts.mark_if(book.machine().is_none(), Mark::PlanPassedOver);
                 Ok(())
             }
+            Some(Frame::Slack) if astray != Some(Astray::SlackLineRefused) => {
+                facts.mark(if book.machine().is_none() { Mark::SlackPassedOverEarly } else { Mark::SlackPassedOver });
+                Ok(())
+            }
             Some(frame) => book.take(&frame, facts),
         };
         if let Err(refusal) = taken {
@@ -41,7 +46,13 @@ pub fn outcome(sheet: &[u8], astray: Option<Astray>, facts: &mut Facts) -> Outco
         note_accepted(line, facts);
     }
     facts.mark_if(sheet.len() == LONGEST_SHEET, Mark::Longest);
-    match book.plan(facts) {
+    let slack_at_end = sheet.ends_with(b"\n07\n");
+    facts.mark_if(slack_at_end && book.machine().is_some(), Mark::SlackAtEnd);
+    let filed = match astray {
+        Some(Astray::SlackFiled) if slack_at_end => book.slack(facts),
+        _ => book.plan(facts),
+    };
+    match filed {
         Ok(frame) => Outcome::Frame(frame),
         Err(_) => Outcome::NoMachine,
     }

@@ -18,3 +18,6 @@ pub const NO_PLAN: Refusal = 17;
 
 /// Every number that a line of a sheet can meet.
 pub const OF_A_LINE: [Refusal; 12] = [1, 2, 3, 4, 5, 11, 12, 13, 14, 15, 16, 17];
+
+/// Every number that the library call can meet: those of an admission, and never 17.
+pub const OF_THE_CALL: [Refusal; 5] = [11, 4, 13, 15, 16];

@@ -89,7 +89,7 @@ pub fn cycles(draft: &mut Draft) {
     }
     let id = refused::new_id(draft);
     let cost = cost(draft, *last);
-    if draft.for_desk() || draft.random.one_in(3) {
+    if draft.goes_on() || draft.random.one_in(3) {
         draft.put(&admission(id, cost, *last));
         draft.unsettle();
     } else {

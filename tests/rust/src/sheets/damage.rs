@@ -4,7 +4,7 @@ use super::draft::{admission, bytes_of, Draft};
 use super::lives;
 use super::machines;
 use crate::facts::{Facts, LENGTHS};
-use crate::planner::frames::{frame_of, Frame, Line};
+use crate::planner::frames::{frame_of, Frame, Line, KINDS};
 use crate::random::Random;
 
 /// The bytes next to the ranges of digits, and others that a careless reader lets pass.
@@ -59,11 +59,12 @@ fn wrong_byte(random: &mut Random) -> u8 {
 
 /// A well-formed frame with any numbers.
 fn any_frame(random: &mut Random) -> Frame {
-    match random.below(5) {
+    match random.below(6) {
         0 => machines::valid(random),
         1 => Frame::Power((0..random.between(1, 4)).map(|_| random.next() as u32).collect()),
         2 => admission(random.between(1, 9), random.between(1, 9), random.between(9, 99)),
         3 => Frame::Retire { id: random.between(1, 9) as u32 },
+        4 => Frame::Slack,
         _ => Frame::Plan,
     }
 }
@@ -71,12 +72,13 @@ fn any_frame(random: &mut Random) -> Frame {
 /// A kind that is not read, with the rest of a frame that is, or with that of a frame that is only written.
 fn unknown_kind(random: &mut Random) -> Vec<u8> {
     let mut bytes = bytes_of(&any_frame(random));
-    bytes[0] = random.pick(&[0, 6, 7, 0x10, 0x80, 0x81, 0x82, 0x8E, 0xFF, 1]);
+    bytes[0] = random.pick(&[0, 6, 8, 0x10, 0x70, 0x80, 0x81, 0x83, 0x87, 0x8E, 0xFF, 1]);
     if random.one_in(2) || bytes[0] == 1 {
         bytes[0] = random.next() as u8;
     }
     match bytes[0] {
         0x81 if random.one_in(2) => vec![0x81, 0, 0, 0, 0, 1, 0, 0, 0, 1, 0, 0, 0],
+        0x83 if random.one_in(2) => vec![0x83, 0, 0, 0, 0, 0, 0, 0, 0, 2],
         0x8E if random.one_in(2) => vec![0x8E, 0, 0, 0, 7, 17],
         _ => bytes,
     }
@@ -84,14 +86,14 @@ fn unknown_kind(random: &mut Random) -> Vec<u8> {
 
 /// The kinds that are not read, in turn, each with nothing or with a byte or two after it.
 fn unknown_kind_in_turn(index: usize) -> Vec<u8> {
-    let kinds: Vec<u8> = (0..=255).filter(|kind| !(1..=5).contains(kind)).collect();
+    let kinds: Vec<u8> = (0..=255).filter(|kind| !KINDS.contains(kind)).collect();
     let kind = kinds[index % kinds.len()];
     [kind, 0, 1][..1 + index % 3].to_vec()
 }
 
-/// A kind 01 to 05 with any number of bytes after it.
+/// A kind that is read with any number of bytes after it.
 fn wrong_length(random: &mut Random) -> Vec<u8> {
-    let kind = random.between(1, 5) as u8;
+    let kind = random.pick(&KINDS);
     let longest = if random.one_in(4) { 140 } else { 12 };
     let length = random.between(0, longest) as usize;
     let mut bytes = vec![kind];
@@ -108,7 +110,7 @@ fn power_of_length(length: usize) -> Vec<u8> {
 
 /// Family g: an undamaged life, then the damage; for the desk damage all over.
 pub fn damage(draft: &mut Draft) {
-    if draft.for_desk() {
+    if draft.goes_on() {
         damaged_line(draft);
     }
     let length = draft.index % LENGTHS;
@@ -126,8 +128,8 @@ pub fn damage(draft: &mut Draft) {
     for _ in 0..draft.random.below(3) {
         draft.unsettle();
     }
-    draft.put(&Frame::Plan);
-    if draft.for_desk() {
+    draft.want();
+    if draft.goes_on() {
         whole_line(draft, &power_of_length(length));
         draft.finish();
     }

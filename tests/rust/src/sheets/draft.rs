@@ -43,8 +43,9 @@ impl Draft {
         self.bytes.len()
     }
 
-    pub fn for_desk(&self) -> bool {
-        self.side == Side::Desk
+    /// Whether lines after a refused one are read too.
+    pub fn goes_on(&self) -> bool {
+        self.side != Side::Host
     }
 
     /// The machine on the book; makers ask only after one was opened.
@@ -96,9 +97,9 @@ impl Draft {
 
     /// Lines after which a reader of the desk's output learns most: refused ones, then a plan. The host's call would end there.
     pub fn unsettle(&mut self) {
-        if !self.for_desk() {
+        if !self.goes_on() {
             if self.random.one_in(6) {
-                self.put(&Frame::Plan);
+                self.want();
             }
             return;
         }
@@ -106,20 +107,40 @@ impl Draft {
             refused::any(self);
         }
         if self.random.one_in(2) {
-            self.put(&Frame::Plan);
+            self.want();
         }
     }
 
-    /// The end of a sheet: for the host a refused line now and then, for the desk refused lines and a plan.
+    /// A plan wanted, or its slack, or both in either order.
+    pub fn want(&mut self) {
+        let wanted: &[Frame] = match self.random.below(5) {
+            0 => &[Frame::Plan],
+            1 => &[Frame::Slack],
+            2 => &[Frame::Plan, Frame::Slack],
+            3 => &[Frame::Slack, Frame::Plan],
+            _ => &[Frame::Plan, Frame::Slack, Frame::Slack],
+        };
+        for frame in wanted {
+            self.put(frame);
+        }
+    }
+
+    /// The end of a sheet: for the host a refused line now and then, for the desk refused lines, a plan, and often
+    /// its slack.
     pub fn finish(&mut self) {
-        if self.for_desk() {
+        if self.goes_on() {
             for _ in 0..self.random.between(1, 4) {
                 refused::any(self);
             }
             self.put(&Frame::Plan);
+            if self.random.one_in(2) {
+                self.put(&Frame::Slack);
+            }
         } else if self.random.one_in(7) {
             refused::any(self);
-            self.put(&Frame::Plan);
+            self.want();
+        } else if self.random.one_in(7) {
+            self.want();
         }
     }
 
@@ -162,5 +183,6 @@ pub fn bytes_of(frame: &Frame) -> Vec<u8> {
         Frame::Admit { id, cost, period } => [&[3][..], &two(*id), &two(*cost), &two(*period)].concat(),
         Frame::Retire { id } => [&[4][..], &two(*id)].concat(),
         Frame::Plan => vec![5],
+        Frame::Slack => vec![7],
     }
 }

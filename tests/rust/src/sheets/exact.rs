@@ -22,7 +22,7 @@ pub fn exact(draft: &mut Draft) {
 }
 
 /// The speeds of a never-rising plan.
-fn plan_speeds(draft: &mut Draft) -> Vec<u64> {
+pub fn plan_speeds(draft: &mut Draft) -> Vec<u64> {
     let machine = draft.machine();
     let levels = u64::from(machine.levels);
     let mut plan: Vec<u32> = (0..machine.processors).map(|_| draft.random.below(levels) as u32).collect();
@@ -30,7 +30,7 @@ fn plan_speeds(draft: &mut Draft) -> Vec<u64> {
     plan.iter().map(|&level| u64::from(machine.speed(level))).collect()
 }
 
-fn admit_all(draft: &mut Draft, costs: &[u64], period: u64) {
+pub fn admit_all(draft: &mut Draft, costs: &[u64], period: u64) {
     let mut order: Vec<u64> = costs.to_vec();
     if draft.random.one_in(2) {
         draft.random.shuffle(&mut order);
@@ -115,7 +115,7 @@ fn full_load(draft: &mut Draft) {
     let id = refused::new_id(draft);
     let cost = draft.random.pick(&[last, last, last + 1, last + 1, last.max(2) - 1]);
     let frame = admission(id, cost, period);
-    if draft.for_desk() || draft.random.one_in(2) {
+    if draft.goes_on() || draft.random.one_in(2) {
         draft.put(&frame);
     } else {
         draft.offer(&frame);
@@ -172,7 +172,7 @@ fn one_ratio(draft: &mut Draft) {
         let cost = (cost * factor).max(nudge + 1) - nudge;
         let id = refused::new_id(draft);
         draft.admit(id, cost, period * factor);
-        if draft.for_desk() && draft.random.one_in(5) {
+        if draft.goes_on() && draft.random.one_in(5) {
             draft.unsettle();
         }
     }

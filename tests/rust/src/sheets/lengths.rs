@@ -6,7 +6,22 @@ use crate::planner::frames::Frame;
 
 const LINE_OF_ADMISSION: usize = 15;
 const LINE_OF_RETIREMENT: usize = 7;
+/// Of a slack line too.
 const LINE_OF_PLAN: usize = 3;
+
+const SHORTEST: &[&[u8]] = &[
+    b"\n",
+    b"0",
+    b"05",
+    b"05\n",
+    b"07",
+    b"07\n",
+    b"0700\n",
+    b"\n\n",
+    b"01040400010001",
+    b"01040400010001\n",
+    b"01040400010001\n07\n",
+];
 
 /// Family h.
 pub fn lengths(draft: &mut Draft) {
@@ -22,15 +37,15 @@ pub fn lengths(draft: &mut Draft) {
         }
         6 => {
             valid(draft, length - 2);
-            draft.raw(b"05");
+            let text: &[u8] = draft.random.pick(&[b"05", b"07"]);
+            draft.raw(text);
         }
         _ => shortest(draft),
     }
 }
 
 fn shortest(draft: &mut Draft) {
-    let sheets: [&[u8]; 9] = [b"", b"", b"\n", b"0", b"05", b"05\n", b"\n\n", b"01040400010001", b"01040400010001\n"];
-    let sheet = draft.random.pick(&sheets);
+    let sheet = if draft.index % 3 == 0 { b"" } else { draft.random.pick(SHORTEST) };
     draft.raw(sheet);
 }
 
@@ -46,7 +61,7 @@ fn one_line(draft: &mut Draft, length: usize, closed: bool) {
     }
 }
 
-/// An undamaged sheet of exactly this length: jobs that come and go, and plan lines for the rest.
+/// An undamaged sheet of exactly this length: jobs that come and go, and plan and slack lines for the rest.
 fn valid(draft: &mut Draft, length: usize) {
     let m = draft.random.between(1, 4);
     let l = draft.random.between(1, 8);
@@ -69,6 +84,7 @@ fn valid(draft: &mut Draft, length: usize) {
         draft.put(&admission(id, cost, 10));
     }
     while draft.length() < length {
-        draft.put(&Frame::Plan);
+        let wanted = if draft.random.one_in(2) { Frame::Plan } else { Frame::Slack };
+        draft.put(&wanted);
     }
 }

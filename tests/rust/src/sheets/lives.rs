@@ -37,7 +37,7 @@ impl Periods {
 }
 
 /// A job that asks for at most this many hundredths of a processor.
-fn job(random: &mut Random, id: u64, periods: &mut Periods, hundredths: u64) -> Frame {
+pub fn job(random: &mut Random, id: u64, periods: &mut Periods, hundredths: u64) -> Frame {
     let period = periods.one(random);
     let most = (period * hundredths / 100).clamp(1, period);
     let cost = if random.one_in(6) { most } else { random.between(1, most) };
@@ -55,7 +55,7 @@ pub fn admit_some(draft: &mut Draft, count: u64) {
     }
 }
 
-fn fill(draft: &mut Draft, ids: &mut Vec<u64>, periods: &mut Periods, target: usize) {
+pub fn fill(draft: &mut Draft, ids: &mut Vec<u64>, periods: &mut Periods, target: usize) {
     let m = u64::from(draft.machine().processors);
     let mut weight = (draft.random.between(1, 3) * m * 100 / 64).clamp(1, 100);
     let mut tries = 0;
@@ -69,14 +69,14 @@ fn fill(draft: &mut Draft, ids: &mut Vec<u64>, periods: &mut Periods, target: us
         if !draft.offer(&frame) {
             weight = (weight / 2).max(1);
         }
-        if draft.for_desk() && draft.random.one_in(12) {
+        if draft.goes_on() && draft.random.one_in(12) {
             draft.unsettle();
         }
     }
 }
 
 /// Retires some jobs and remembers their ids, to be admitted again with other numbers.
-fn retire_some(draft: &mut Draft, ids: &mut Vec<u64>) {
+pub fn retire_some(draft: &mut Draft, ids: &mut Vec<u64>) {
     let mut jobs = draft.book.jobs();
     draft.random.shuffle(&mut jobs);
     let count = match draft.random.below(8) {
@@ -124,7 +124,7 @@ pub fn lives(draft: &mut Draft) {
 
 // With 64 jobs held, 15 meets its neighbours in the order: 13 before it, 16 and 17 after it.
 fn full_roster(draft: &mut Draft) {
-    if draft.book.jobs().len() == 64 && (draft.for_desk() || draft.random.one_in(4)) {
+    if draft.book.jobs().len() == 64 && (draft.goes_on() || draft.random.one_in(4)) {
         let number = draft.random.pick(&[13, 15]);
         refused::of_number(draft, number);
     }
@@ -166,14 +166,14 @@ fn mixed_line(draft: &mut Draft, periods: &mut Periods) {
             let id = draft.random.pick(&jobs).id;
             draft.put(&Frame::Retire { id });
         }
-        1 => draft.put(&Frame::Plan),
+        1 => draft.want(),
         2 if machine.is_some() => {
             let levels = draft.machine().levels as usize;
             let table = tables::convex(&mut draft.random, levels);
             draft.put(&Frame::Power(table));
         }
-        3 if draft.for_desk() => refused::any(draft),
-        4 if draft.for_desk() => {
+        3 if draft.goes_on() => refused::any(draft),
+        4 if draft.goes_on() => {
             let bytes: Vec<u8> = (0..draft.random.below(9)).map(|_| draft.random.next() as u8).collect();
             let text = draft.digits(&bytes);
             draft.line(&text);

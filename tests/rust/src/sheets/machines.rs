@@ -90,7 +90,7 @@ fn top_speed_beyond(random: &mut Random, m: u64) -> Frame {
 
 /// Family d.
 pub fn machines(draft: &mut Draft) {
-    if draft.for_desk() {
+    if draft.goes_on() {
         for _ in 0..draft.random.between(2, 5) {
             let number = draft.random.pick(&[1, 2, 2, 5, 11]);
             refused::of_number(draft, number);
@@ -143,7 +143,7 @@ fn jobs_at_the_ends(draft: &mut Draft) {
     };
     for id in 1..=count {
         draft.offer(&admission(id, cost.max(1), period));
-        if draft.for_desk() && draft.random.one_in(8) {
+        if draft.goes_on() && draft.random.one_in(8) {
             draft.unsettle();
         }
     }

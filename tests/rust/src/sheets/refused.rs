@@ -71,11 +71,12 @@ fn zeros(draft: &mut Draft) -> Frame {
 }
 
 fn without_machine(draft: &mut Draft) -> Frame {
-    match draft.random.below(if draft.for_desk() { 5 } else { 4 }) {
+    match draft.random.below(if draft.goes_on() { 6 } else { 4 }) {
         0 => Frame::Power(vec![draft.random.below(20) as u32; draft.random.between(1, 32) as usize]),
         1 => any_admission(draft),
         2 => Frame::Retire { id: draft.random.below(3) as u32 },
         3 => zeros(draft),
+        4 => Frame::Slack,
         _ => Frame::Plan,
     }
 }

@@ -93,7 +93,7 @@ pub fn tables(draft: &mut Draft) {
         let table = convex(&mut draft.random, levels);
         draft.put(&Frame::Power(table));
         draft.unsettle();
-        if draft.for_desk() {
+        if draft.goes_on() {
             let table = refused(draft);
             draft.put(&table);
             draft.put(&Frame::Plan);
@@ -101,7 +101,7 @@ pub fn tables(draft: &mut Draft) {
     }
     let more = draft.random.between(0, 2);
     lives::admit_some(draft, more);
-    if !draft.for_desk() && draft.random.one_in(3) {
+    if !draft.goes_on() && draft.random.one_in(3) {
         let table = refused(draft);
         draft.put(&table);
     }
