@@ -48,7 +48,7 @@ fn slack_between(supply: u64, need: u64, top: u32) -> Slack
 }
 
 // The slack of every test of the first `held` jobs under the levels, test by test: one processor more joins, and the next largest work is
-// found on the jobs themselves.
+// found on the jobs themselves. From the test `steps` on all works are weighed.
 fn slack_under(
     machine: Machine,
     jobs: [Job; 64],
@@ -63,7 +63,6 @@ fn slack_under(
     let hyperperiod = all.hyperperiod;
     let top = top_speed(machine);
     let m = machine.processors as usize;
-    // from this test on all works are weighed
     let steps = steps_of(machine.processors, held);
     let mut ticks = [0i64; 32];
     let mut remainders = [0u8; 32];
@@ -71,8 +70,7 @@ fn slack_under(
     let mut taken: u64 = 0;
     let mut job = none_taken();
     for i in 0..m {
-        let level = levels[i];
-        supply += hyperperiod as u64 * speed_of(machine, level) as u64;
+        supply += hyperperiod as u64 * speed_of(machine, levels[i]) as u64;
         let mut demand = all.work;
         if i + 1 < steps {
             job = next_job(jobs, held, job);

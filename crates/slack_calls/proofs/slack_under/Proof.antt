@@ -104,11 +104,11 @@ inside-32 c = omega (arith, inside c, begin c .pre .0 .0 .processors .1)
 steps-are : (c : Turn) → c .before .before .before .steps-of .result ≡ min (begin c .args .machine .processors) (length (held-jobs (begin c)))
 steps-are c = c .before .before .before .steps-of .ensures ∙ ap (min (begin c .args .machine .processors)) (sym (held-length (begin c)))
 
-array-read-level : tie.Need-array-read-level Inv-loop μ-loop
-array-read-level c = inside-32 c
-
 cast-supply : tie.Need-cast-supply Inv-loop μ-loop
 cast-supply c = omega (arith, ticks-are (begin c), begin c .pre .1 .0)
+
+array-read-speed-of : tie.Need-array-read-speed-of Inv-loop μ-loop
+array-read-speed-of c = omega (arith, inside-32 c)
 
 speed-of-requires : tie.Need-speed-of-requires Inv-loop μ-loop
 speed-of-requires c κs = search needs
@@ -282,8 +282,8 @@ slack-under-spec =
     steps-of-requires
     none-taken-requires
     loop-holds
-    array-read-level
     cast-supply
+    array-read-speed-of
     speed-of-requires
     cast-supply-2
     mul-supply

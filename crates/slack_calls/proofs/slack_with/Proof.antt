@@ -1,4 +1,5 @@
 -- `slack_calls::slack_with` meets its contract.
+use native.Mathlib.Omega.{arith}
 use mathlib.Core.Path.{_≡_, refl, _∙_}
 use borrow.Author.Needs.{needs}
 use lib.ListN.{length, length-map}
@@ -35,7 +36,7 @@ added c =
     with-accepted (s .args .roster) (entries s) (places s) _ _ _ _ (c .before .before .offer .ensures) (c .enum-told .given .1)
 
 sub-highest : tie.Need-sub-highest
-sub-highest c = added (c .before .before .before .before) .one-more .machine-range .levels .0
+sub-highest c = omega (arith, added (c .before .before .before .before) .one-more .machine-range .levels .0)
 
 cast-slack-under : tie.Need-cast-slack-under
 cast-slack-under c = search needs
