@@ -32,7 +32,7 @@ fn growth(hyperperiod: u32, period: u32, rest: u32) -> Growth {
     Growth { factor: period / divisor, periods: hyperperiod / divisor }
 }
 
-fn greatest_common_divisor(mut a: u32, mut b: u32) -> u32 {
+pub fn greatest_common_divisor(mut a: u32, mut b: u32) -> u32 {
     while b != 0 {
         (a, b) = (b, a % b);
     }

@@ -3,7 +3,7 @@
 use crate::frames::MachineNumbers;
 use crate::refusal::Refusal;
 
-const TOP_SPEED: u32 = 256;
+pub const TOP_SPEED: u32 = 256;
 const LARGEST_POWER: u32 = 1 << 24;
 
 pub struct Machine {

@@ -16,4 +16,6 @@ pub enum Refusal {
     PlacesFull = 15,
     HyperperiodTooLong = 16,
     NoPlan = 17,
+    NotAList = 18,
+    UnevenGaps = 19,
 }

@@ -1,7 +1,7 @@
 -- Demand 3, from what holds of one call.
 use Prim.Native.Nat.{ℕ, _-_}
-use mathlib.Core.Path.{_≡_, refl, sym, ap, subst, _∙_}
-use mathlib.Core.List.{List, [], _∷_}
+use mathlib.Core.Path.{_≡_, refl, sym, ap, ap₂, subst, _∙_}
+use mathlib.Core.List.{List, [], _∷_, _++_}
 use lib.ListN.{length, replicate}
 use lib.Seq.{take-append-seam}
 use Rattle.gmf.specs.declared.Machine.{Machine}
@@ -9,18 +9,39 @@ use Rattle.gmf.specs.declared.Job.{Job}
 use Rattle.frame_kinds.specs.Frames.{Said, says, refused, kindOf, besideOf, readingOf}
 use Rattle.frame_reader.specs.Frames.{saidBy}
 use Rattle.planner.specs.declared.Roster.{Roster}
-use Rattle.planner.specs.Model.{Model, Closed, Opened}
+use Rattle.planner.specs.Model.{Model, Opened}
 use Rattle.planner.specs.Model as planner
-use Rattle.planner.specs.Roster.{emptyRoster, modelOf, rosterOf, wellFormed}
+use Rattle.planner.specs.Roster.{modelOf, rosterOf, wellFormed}
 use Rattle.planner.specs.Claims.{Kept, Offered, answerTo, TurnedDown}
 use Rattle.planner.proofs.Results.{planner}
+use Rattle.imports.proofs.Results.{importing}
 use Rattle.filing.specs.Plans.{Filed, planReply}
 use Rattle.filing.proofs.Results.{files}
 use Rattle.slack_calls.specs.declared.SlackAnswer.{SlackAnswer}
 use Rattle.slack_calls.specs.Slacks.{slackReply, slackTo}
 use Rattle.slack_calls.proofs.Results.{slack-calls}
 use Rattle.calls.specs.Lines.{Asked, change, plan, slack, askedBy, asked, replyAs, lineReply}
-use Rattle.calls.specs.Calls.{Call, SlackWith, Line, Done, done, gave, wrote, onModel, onRoster, replies, end}
+use Rattle.calls.specs.Calls.{
+  Call,
+  SlackWith,
+  Line,
+  Done,
+  done,
+  gave,
+  wrote,
+  onRoster,
+  replies,
+  end,
+  Beginning,
+  Empty,
+  Import,
+  begunModel,
+  begunRoster,
+  modelReplies,
+  rosterReplies,
+  modelAfter,
+  rosterAfter,
+}
 use Rattle.calls.specs.Claims.{AskRule, WantsPlan, WantsSlack, Offers, FiledNext, SlackNext, Demand3}
 use Rattle.calls.specs.Claims as claims
 use Rattle.calls.proofs.Following.{never-7, list-replies, list-end, list-kept}
@@ -115,28 +136,59 @@ gives : (id cost period : ℕ) (r : Roster) → onRoster r (SlackWith id cost pe
 unfolding onRoster
 gives id cost period r = refl
 
+-- ---- How a list begins
+
+-- The roster that the first call gets is that of the model, which keeps the rules; and the import's replies are the same.
+record Begins (begins : Beginning) : Type 0 where
+  replies : begunRoster begins .replies ≡ begunModel begins .replies
+  first : begunRoster begins .first ≡ rosterOf (begunModel begins .first)
+  kept : Kept (begunModel begins .first)
+
+begins-so : (begins : Beginning) → Begins begins
+unfolding begunRoster begunModel
+begins-so Empty = record { replies = refl; first = sym (planner .begins); kept = tt }
+begins-so (Import m list) =
+    let rule = importing .follow-rule m list in
+    record {
+      replies = ap (λ (n : ℕ). record { number = n; page = []; ticks = []; remainders = [] } ∷ []) (rule .number);
+      first = rule .roster;
+      kept = rule .kept;
+    }
+
 -- ---- All of it
 
-module _ (calls : List Call) where
+module _ (begins : Beginning) (calls : List Call) where
   abbrev book : Model
-  book = end onModel Closed calls
+  book = modelAfter begins calls
+
+  abbrev left : Roster
+  left = rosterAfter begins calls
 
   book-kept : Kept book
-  book-kept = list-kept Closed calls tt
+  unfolding modelAfter
+  book-kept = list-kept (begunModel begins .first) calls (begins-so begins .kept)
 
-  ends : end onRoster emptyRoster calls ≡ rosterOf book
-  ends = ap (λ (r : Roster). end onRoster r calls) (sym (planner .begins)) ∙ list-end Closed calls tt
+  ends : left ≡ rosterOf book
+  unfolding rosterAfter modelAfter
+  ends =
+      ap (λ (r : Roster). end onRoster r calls) (begins-so begins .first) ∙ list-end (begunModel begins .first) calls (begins-so begins .kept)
 
-  module _ (M : Machine) (table : List ℕ) (jobs : List Job) (e : end onModel Closed calls ≡ Opened M table jobs) where
+  same-replies : rosterReplies begins calls ≡ modelReplies begins calls
+  unfolding rosterReplies modelReplies
+  same-replies =
+      let so = begins-so begins in
+      ap₂ _++_ (so .replies) (ap (λ (r : Roster). replies onRoster r calls) (so .first) ∙ list-replies (begunModel begins .first) calls (so .kept))
+
+  module _ (M : Machine) (table : List ℕ) (jobs : List Job) (e : book ≡ Opened M table jobs) where
     open-kept : Kept (Opened M table jobs)
     open-kept = subst Kept e book-kept
 
-    at-end : rosterOf (Opened M table jobs) ≡ end onRoster emptyRoster calls
+    at-end : rosterOf (Opened M table jobs) ≡ left
     at-end = ap rosterOf (sym e) ∙ sym ends
 
-  pub demand-3 : Demand3 calls
+  pub demand-3 : Demand3 begins calls
   demand-3 = record {
-    same-replies = ap (λ (r : Roster). replies onRoster r calls) (sym (planner .begins)) ∙ list-replies Closed calls tt;
+    same-replies = same-replies;
     same-roster = ends;
     carries = ap modelOf ends ∙ planner .one-call book book-kept .carried;
     kept = book-kept;
@@ -150,6 +202,7 @@ module _ (calls : List Call) where
     slack-next = λ M table jobs e.
         subst (λ (r : Roster). SlackNext r M table jobs) (at-end M table jobs e) (slack-next M table jobs (open-kept M table jobs e));
     slack-with = slack-calls .with-rule book book-kept;
-    given = λ id cost period. gives id cost period (end onRoster emptyRoster calls) ∙ ap (λ (a : SlackAnswer). gave a (end onRoster emptyRoster calls))
+    given = λ id cost period. gives id cost period left ∙ ap (λ (a : SlackAnswer). gave a left)
         (ap (λ (r : Roster). slackTo r id cost period) ends ∙ slack-calls .with-rule book book-kept id cost period .follows);
+    imports = λ processors list e. (importing .order-rule processors list, importing .follow-rule processors list);
   }

@@ -1,14 +1,15 @@
 -- The list of calls and its book (01): every call with its arguments, what comes of it on the model, and what comes of making it on a roster.
 use Prim.Native.Nat.{ℕ}
-use mathlib.Core.List.{List, [], _∷_}
+use mathlib.Core.List.{List, [], _∷_, _++_}
 use lib.IntN.{ℤ}
 use Rattle.planner.specs.declared.Roster.{Roster}
 use Rattle.refusals.specs.declared.Refusal.the-variants.{Malformed}
-use Rattle.planner.specs.Model.{Model, step}
+use Rattle.planner.specs.Model.{Model, Closed, step}
 use Rattle.planner.specs.Model as planner
-use Rattle.planner.specs.Roster.{replyTo}
+use Rattle.planner.specs.Roster.{emptyRoster, replyTo}
 use Rattle.refusals.specs.Numbers.{refusalNumber, numberOf}
 use Rattle.planner.specs.Calls.{outcomeNumber, after}
+use Rattle.imports.specs.Imports.{imported, importReply}
 use Rattle.filing.specs.Plans.{Filed, filed, planReply}
 use Rattle.slack_calls.specs.declared.SlackAnswer.{SlackAnswer}
 use Rattle.slack_calls.specs.Slacks.{slackFiled, slackReply, slackWith, slackTo}
@@ -93,3 +94,46 @@ module _ {S : Type 0} (on : S → Call → Done S) where
   unfoldable pub end : S → List Call → S
   end state [] = state
   end state (call ∷ calls) = end (on state call .next) calls
+
+-- ---- How a list begins
+
+-- "A list starts from the roster of all zeros", and the book "begins with none of them". "A list of demand 3 may also begin with an import" (02,
+-- 2026-02): a processor count and the bytes of a list of frequencies.
+pub data Beginning : Type 0 where
+  Empty : Beginning
+  Import : (processors : ℕ) (list : List ℕ) → Beginning
+
+-- What comes of it: the replies that are compared, none or the import's, and what the first call gets.
+pub record Begun (S : Type 0) : Type 0 where
+  pub replies : List Reply
+  pub first : S
+
+-- An import, by its number and what it gives. It is lent no page.
+abbrev pub withReply : {S : Type 0} → ℕ → S → Begun S
+withReply number first = record { replies = done number [] first .reply ∷ []; first = first }
+
+-- "… the book reads it as a machine call with that processor count and those speeds, and a refused one leaves book and roster empty."
+unfoldable pub begunModel : Beginning → Begun Model
+begunModel Empty = record { replies = []; first = Closed }
+begunModel (Import m list) = withReply (outcomeNumber (imported m list)) (after Closed (imported m list))
+
+-- On a roster: what the import's contract says.
+unfoldable pub begunRoster : Beginning → Begun Roster
+begunRoster Empty = record { replies = []; first = emptyRoster }
+begunRoster (Import m list) = withReply (numberOf (importReply m list .answer)) (importReply m list .roster)
+
+-- ---- A whole list: its beginning and then its calls
+
+-- All that is compared, the import's number first.
+unfoldable pub modelReplies : Beginning → List Call → List Reply
+modelReplies begins calls = begunModel begins .replies ++ replies onModel (begunModel begins .first) calls
+
+unfoldable pub rosterReplies : Beginning → List Call → List Reply
+rosterReplies begins calls = begunRoster begins .replies ++ replies onRoster (begunRoster begins .first) calls
+
+-- What is left at the end.
+unfoldable pub modelAfter : Beginning → List Call → Model
+modelAfter begins calls = end onModel (begunModel begins .first) calls
+
+unfoldable pub rosterAfter : Beginning → List Call → Roster
+rosterAfter begins calls = end onRoster (begunRoster begins .first) calls

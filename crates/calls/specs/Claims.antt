@@ -9,15 +9,16 @@ use Rattle.gmf.specs.declared.Job.{Job}
 use Rattle.frame_kinds.specs.Frames.{says, refused}
 use Rattle.frame_reader.specs.Frames.{saidBy}
 use Rattle.planner.specs.declared.Roster.{Roster}
-use Rattle.planner.specs.Model.{Closed, Opened, OpenMachine, ReplaceTable, Admit, Retire}
-use Rattle.planner.specs.Roster.{emptyRoster, modelOf, rosterOf, wellFormed}
+use Rattle.planner.specs.Model.{Opened, OpenMachine, ReplaceTable, Admit, Retire}
+use Rattle.planner.specs.Roster.{modelOf, rosterOf, wellFormed}
 use Rattle.planner.specs.Claims.{Kept, Offered, TurnedDown}
+use Rattle.imports.specs.Claims.{OrderRule, FollowRule}
 use Rattle.filing.specs.Plans.{planLine}
 use Rattle.filing.specs.Claims.{frameLength, FiledPlan}
 use Rattle.slack_calls.specs.Slacks.{slackLine, slackWith}
 use Rattle.slack_calls.specs.Claims.{slackLength, FiledSlack, WithRule}
 use Rattle.calls.specs.Lines.{malformed, change, plan, slack, asked}
-use Rattle.calls.specs.Calls.{Call, Change, Plan, Slack, SlackWith, Line, done, gave, onModel, onRoster, replies, end}
+use Rattle.calls.specs.Calls.{Call, Change, Plan, Slack, SlackWith, Line, done, gave, onRoster, Beginning, Import, modelReplies, rosterReplies, modelAfter, rosterAfter}
 
 -- ---- Lines
 
@@ -71,34 +72,37 @@ pub record SlackNext (r : Roster) (M : Machine) (table : List ℕ) (jobs : List 
       → onRoster r call ≡ done 6 page r
 
 -- "For every list of machine, power, admit, retire and plan calls from the empty roster, refused ones included", and of slack calls, made with
--- numbers or as lines.
-pub record Demand3 (calls : List Call) : Type 0 where
-  -- "… the replies and the roster after it are those of document 01's book of the same calls": each number, every byte of each lent page and
-  -- all values given, and the roster at the end.
-  pub same-replies : replies onRoster emptyRoster calls ≡ replies onModel Closed calls
-  pub same-roster : end onRoster emptyRoster calls ≡ rosterOf (end onModel Closed calls)
+-- numbers or as lines; and for every such list that begins with an import.
+pub record Demand3 (begins : Beginning) (calls : List Call) : Type 0 where
+  -- "… the replies and the roster after it are those of document 01's book of the same calls": each number, the import's too, every byte of each
+  -- lent page and all values given, and the roster at the end.
+  pub same-replies : rosterReplies begins calls ≡ modelReplies begins calls
+  pub same-roster : rosterAfter begins calls ≡ rosterOf (modelAfter begins calls)
   -- "The roster carries exactly the book's machine, table and jobs", keeps 01's rules, and never meets 7.
-  pub carries : modelOf (end onRoster emptyRoster calls) ≡ end onModel Closed calls
-  pub kept : Kept (end onModel Closed calls)
-  pub well-formed : wellFormed (end onRoster emptyRoster calls) ≡ true
-  pub never-7 : (call : Call) → onRoster (end onRoster emptyRoster calls) call .reply .number ≡ 7 → ⊥
+  pub carries : modelOf (rosterAfter begins calls) ≡ modelAfter begins calls
+  pub kept : Kept (modelAfter begins calls)
+  pub well-formed : wellFormed (rosterAfter begins calls) ≡ true
+  pub never-7 : (call : Call) → onRoster (rosterAfter begins calls) call .reply .number ≡ 7 → ⊥
   -- "After every such list, on an open machine, the plan filed next …"
-  pub filed-next : (M : Machine) (table : List ℕ) (jobs : List Job) → end onModel Closed calls ≡ Opened M table jobs
-      → FiledNext (end onRoster emptyRoster calls) M table jobs
+  pub filed-next : (M : Machine) (table : List ℕ) (jobs : List Job) → modelAfter begins calls ≡ Opened M table jobs
+      → FiledNext (rosterAfter begins calls) M table jobs
   -- "After every such list, on an open machine, a job in range, under a new id, with a place free and the cycle within its limit …"
-  pub turned-down : (M : Machine) (table : List ℕ) (jobs : List Job) → end onModel Closed calls ≡ Opened M table jobs
-      → (new : Job) → Offered jobs new → (call : Call) → Offers call new → TurnedDown (onRoster (end onRoster emptyRoster calls) call .reply .number) M jobs new
+  pub turned-down : (M : Machine) (table : List ℕ) (jobs : List Job) → modelAfter begins calls ≡ Opened M table jobs
+      → (new : Job) → Offered jobs new → (call : Call) → Offers call new → TurnedDown (onRoster (rosterAfter begins calls) call .reply .number) M jobs new
   -- The slack filed next is that of the plan filed next; and a job offered gets the slack that `WithRule` says of the model: below zero somewhere
   -- exactly when its admission is refused by 17.
-  pub slack-next : (M : Machine) (table : List ℕ) (jobs : List Job) → end onModel Closed calls ≡ Opened M table jobs
-      → SlackNext (end onRoster emptyRoster calls) M table jobs
-  pub slack-with : (id cost period : ℕ) → WithRule (end onModel Closed calls) id cost period
+  pub slack-next : (M : Machine) (table : List ℕ) (jobs : List Job) → modelAfter begins calls ≡ Opened M table jobs
+      → SlackNext (rosterAfter begins calls) M table jobs
+  pub slack-with : (id cost period : ℕ) → WithRule (modelAfter begins calls) id cost period
   pub given : (id cost period : ℕ)
-      → onRoster (end onRoster emptyRoster calls) (SlackWith id cost period)
-      ≡ gave (slackWith (end onModel Closed calls) id cost period) (end onRoster emptyRoster calls)
+      → onRoster (rosterAfter begins calls) (SlackWith id cost period)
+      ≡ gave (slackWith (modelAfter begins calls) id cost period) (rosterAfter begins calls)
+  -- An import is refused by 1, 18, 19 and 2 in this order, by their conditions, and leaves book and roster empty then; otherwise both are those of
+  -- the machine call.
+  pub imports : (processors : ℕ) (list : List ℕ) → begins ≡ Import processors list → OrderRule processors list × FollowRule processors list
 
 -- ---- All of it
 
 pub record Calling : Type 0 where
   pub ask-rule : (line : List ℕ) → AskRule line
-  pub demand-3 : (calls : List Call) → Demand3 calls
+  pub demand-3 : (begins : Beginning) (calls : List Call) → Demand3 begins calls

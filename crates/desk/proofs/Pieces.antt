@@ -31,7 +31,7 @@ use Rattle.slack_calls.specs.Claims.{slackLength}
 use Rattle.slack_calls.proofs.Results.{slack-calls}
 use Rattle.desk.specs.declared.Desk.{Desk}
 use Rattle.calls.specs.Lines.{Asked, malformed, change, plan, slack, asked, LineReply, filedAs, replyAs, lineReply}
-use Rattle.calls.specs.Calls.{Line, readAs, onModel, onRoster, replies}
+use Rattle.calls.specs.Calls.{Line, readAs, onModel, onRoster, replies, Empty, begunModel, begunRoster, modelReplies, rosterReplies}
 use Rattle.sheets.specs.Sheets.{longestFrame, blank, deskCalls, writtenOn, output, outputs, deskSheet}
 use Rattle.desk.specs.Pages.{atStart, nextLine, Lined, settled, deskLine, Filling, fillLines, fillPage, pieces, deskAfter}
 use Rattle.desk.specs.Claims.{DeskRule}
@@ -376,7 +376,8 @@ module _ (sheet : List ℕ) where
   sheet-too-long h = rw (lt-leb (length sheet) longestSheet h, deskSheet)
 
   by-calls : length sheet ≤ longestSheet → deskSheet sheet ≡ outputs 1 (replies onRoster emptyRoster (deskCalls sheet))
-  by-calls h = sheet-allowed h ∙ ap (outputs 1) (sym (demand-3 (deskCalls sheet) .same-replies))
+  unfolding rosterReplies modelReplies begunRoster begunModel
+  by-calls h = sheet-allowed h ∙ ap (outputs 1) (sym (demand-3 Empty (deskCalls sheet) .same-replies))
 
   start-is : atStart ≡ record { roster = rosterOf Closed; at = 0; line = 1 }
   unfolding atStart

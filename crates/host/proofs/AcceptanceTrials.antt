@@ -1,5 +1,5 @@
 -- 01's sheet and some others, for the host. What the calls do is the planner's to say (`ExampleCalls`); the rest is computed.
-use Prim.Native.Nat.{ℕ, suc, _≤_}
+use Prim.Native.Nat.{ℕ, _≤_}
 use native.Mathlib.Omega.{arith}
 use mathlib.Core.Path.{_≡_, refl, sym, ap, _∙_}
 use mathlib.Core.Bool.{true}
@@ -10,57 +10,18 @@ use Rattle.frame_kinds.specs.Frames.{kindOf, rightLength, widthsIn, numberAt, n
 use Rattle.frame_reader.specs.Lines.{joined, linesOf}
 use Rattle.frame_reader.specs.Frames.{saidIn, saidBy}
 use Rattle.frame_reader.specs.Claims.{exampleSheet}
-use Rattle.planner.specs.Model.{Model, Closed}
-use Rattle.planner.specs.Model as planner
-use Rattle.planner.specs.Claims.{Does, exampleModel}
-use Rattle.refusals.proofs.Results.{number-rule}
+use Rattle.planner.specs.Model.{Closed}
+use Rattle.planner.specs.Claims.{exampleModel}
 use Rattle.planner.proofs.Results.{planner as laws}
 use Rattle.filing.specs.Plans.{Filed, filed}
 use Rattle.filing.proofs.Results.{files}
-use Rattle.calls.specs.Lines.{Asked, malformed, change, askedBy, asked, wantsFrame}
-use Rattle.calls.specs.Calls.{changed, readAs, onModel, replies, end}
-use Rattle.host.specs.Host.{lineOnModel, callsFrom, hostCalls, lastNumber, refusedFrom, refusedLine, hostReply}
+use Rattle.calls.specs.Lines.{askedBy, asked, wantsFrame}
+use Rattle.calls.specs.Calls.{onModel}
+use Rattle.host.specs.Host.{hostCalls, refusedLine, hostReply}
 use Rattle.host.specs.Claims.{SheetTrials}
-use Rattle.host.proofs.Walking.{Walked, walked, walked-pass, walked-next, walked-stop}
+use Rattle.host.proofs.Walking.{Walked, walked, walked-pass}
+use Rattle.host.proofs.Turns.{goes-on, ends-by, ends-unread, ended}
 use Rattle.host.proofs.Hosting.{line-allowed, host-rule}
-
--- ---- A line of the host's
-
-module _ (model : Model) (number : ℕ) (line : List ℕ) (lines : List (List ℕ)) where
-  host-number : (ask : Asked) → asked line ≡ ask → lineOnModel model line .reply .number ≡ readAs model ask [] 0 .reply .number
-  unfolding lineOnModel onModel
-  host-number ask a = ap (λ (q : Asked). readAs model q [] 0 .reply .number) a
-
-  host-next : (ask : Asked) → asked line ≡ ask → lineOnModel model line .next ≡ readAs model ask [] 0 .next
-  unfolding lineOnModel onModel
-  host-next ask a = ap (λ (q : Asked). readAs model q [] 0 .next) a
-
-  goes-on : (call : planner.Call) (next : Model) → asked line ≡ change call → Does model call 0 next → walked model number (line ∷ lines) ≡ walked next (suc number) lines
-  unfolding readAs changed wantsFrame
-  goes-on call next a does =
-      walked-next model number line lines (ap wantsFrame a) (host-number (change call) a ∙ does .0)
-      ∙ ap (λ (m : Model). walked m (suc number) lines) (host-next (change call) a ∙ does .1)
-
-  ends-by : (call : planner.Call) (n : ℕ) (next : Model) → asked line ≡ change call → Does model call n next → (n ≡ 0 → ⊥)
-      → walked model number (line ∷ lines) ≡ record { number = n; line = number; model = next }
-  unfolding readAs changed wantsFrame
-  ends-by call n next a does some =
-      let is = host-number (change call) a ∙ does .0 in
-      walked-stop model number line lines (ap wantsFrame a) (λ z. some (sym is ∙ z))
-      ∙ ap (λ (k : ℕ). record { number = k; line = number; model = lineOnModel model line .next }) is
-      ∙ ap (λ (m : Model). record { number = n; line = number; model = m }) (host-next (change call) a ∙ does .1)
-
-  ends-unread : asked line ≡ malformed → walked model number (line ∷ lines) ≡ record { number = 5; line = number; model = model }
-  unfolding readAs wantsFrame
-  ends-unread a =
-      let is = host-number malformed a ∙ number-rule .malformed in
-      walked-stop model number line lines (ap wantsFrame a) (λ z. omega (arith, is))
-      ∙ ap (λ (k : ℕ). record { number = k; line = number; model = lineOnModel model line .next }) is
-      ∙ ap (λ (m : Model). record { number = 5; line = number; model = m }) (host-next malformed a)
-
-ended : (model : Model) (number : ℕ) → walked model number [] ≡ record { number = 0; line = 0; model = model }
-unfolding walked callsFrom refusedFrom replies end lastNumber
-ended model number = refl
 
 -- Six lines of 01's sheet, and the lines after them.
 six-lines : (lines : List (List ℕ)) → walked Closed 1 (take 6 (linesOf exampleSheet) ++ lines) ≡ walked (exampleModel 5) 7 lines

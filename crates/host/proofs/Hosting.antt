@@ -132,7 +132,7 @@ module _ (sheet : List ℕ) where
   abbrev numbers : List CallReply
   numbers = replies onModel Closed (hostCalls sheet)
 
-  number-allowed : length sheet ≤ longestSheet → endNumber sheet ≡ lastNumber numbers
+  pub number-allowed : length sheet ≤ longestSheet → endNumber sheet ≡ lastNumber numbers
   unfolding endNumber
   number-allowed h = rw (le-leb (length sheet) longestSheet h, endNumber)
 

@@ -8,12 +8,17 @@ use Rattle.gmf.specs.declared.Machine.{Machine}
 use Rattle.gmf.specs.declared.Job.{Job}
 use Rattle.frame_reader.specs.Lines.{longestSheet, linesOf}
 use Rattle.frame_reader.specs.Claims.{exampleSheet}
+use Rattle.frame_reader.specs.Frames.{saidBy}
+use Rattle.frame_kinds.specs.Frames.{says}
 use Rattle.planner.specs.Model.{Closed, Opened}
+use Rattle.planner.specs.Calls.{outcomeNumber, after}
 use Rattle.planner.specs.Claims.{Kept}
+use Rattle.imports.specs.Imports.{imported, importReply}
 use Rattle.filing.specs.Plans.{planLine}
 use Rattle.filing.specs.Claims.{frameLength, FiledPlan}
 use Rattle.calls.specs.Calls.{Call, Plan, Line, Reply as CallReply, onModel, replies, end}
-use Rattle.host.specs.Host.{hostCalls, lastNumber, endNumber, refusedLine, endModel, hostReply}
+use Rattle.host.specs.Host.{hostCalls, lastNumber, endNumber, refusedLine, endModel, endOf, hostReply}
+use Rattle.host.specs.Imports.{machineLine, importedOn}
 
 -- The plan filed next on the host's page, from the place on, all else as lent.
 pub record HostFiled (sheet page : List ℕ) (place : ℕ) : Type 0 where
@@ -56,6 +61,29 @@ pub record HostRule (sheet : List ℕ) : Type 0 where
   pub at-end : length sheet ≤ longestSheet → endModel sheet ≡ end onModel Closed (hostCalls sheet)
   pub kept : Kept (endModel sheet)
 
+-- ---- An import
+
+-- The library's import on the host's page: its refusal, 6, or the line of its machine; and that line alone is a sheet which leaves the roster that the
+-- library's import gives.
+pub record ImportRule (processors : ℕ) (list : List ℕ) : Type 0 where
+  pub line : List ℕ
+  pub is-line : line ≡ machineLine (importReply processors list .roster .machine)
+  pub size : length line ≡ 15
+  pub refused : (outcomeNumber (imported processors list) ≡ 0 → ⊥) → (page : List ℕ) (place : ℕ)
+      → importedOn processors list page place ≡ record { number = outcomeNumber (imported processors list); page = page }
+  pub no-room : outcomeNumber (imported processors list) ≡ 0 → (page : List ℕ) (place : ℕ) → length page < place + 15
+      → importedOn processors list page place ≡ record { number = 6; page = page }
+  pub written : outcomeNumber (imported processors list) ≡ 0 → (page : List ℕ) (place : ℕ) → place + 15 ≤ length page
+      → importedOn processors list page place ≡ record { number = 0; page = take place page ++ (line ++ drop (place + 15) page) }
+  -- What the line says: kind 01 and the numbers of the machine.
+  pub says-machine : outcomeNumber (imported processors list) ≡ 0
+      → let M = importReply processors list .roster .machine in
+      saidBy line ≡ says 1 (M .processors ∷ M .levels ∷ M .lowest ∷ M .step ∷ [])
+  pub one-line : outcomeNumber (imported processors list) ≡ 0 → linesOf line ≡ line ∷ []
+  pub no-refusal : outcomeNumber (imported processors list) ≡ 0 → endNumber line ≡ 0
+  pub same-model : outcomeNumber (imported processors list) ≡ 0 → endModel line ≡ after Closed (imported processors list)
+  pub same-roster : outcomeNumber (imported processors list) ≡ 0 → endOf line .roster ≡ importReply processors list .roster
+
 -- ---- Known results
 
 pub record SheetTrials : Type 0 where
@@ -83,4 +111,5 @@ pub record SheetTrials : Type 0 where
 
 pub record Hosting : Type 0 where
   pub host-rule : (sheet : List ℕ) → HostRule sheet
+  pub import-rule : (processors : ℕ) (list : List ℕ) → ImportRule processors list
   pub sheet-trials : SheetTrials

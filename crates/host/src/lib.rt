@@ -1,16 +1,20 @@
-// The calls of a host in C: a sheet, a page and a place. include/planner.h declares them. The definitions are in specs/.
+// The calls of a host in C: a sheet or a list, a page and a place. include/planner.h declares them. The definitions are in specs/.
 ghost use mathlib.Core.Path.{_≡_};
 ghost use Prim.Native.Nat.{_≤_};
 ghost use lib.ListN.{length};
 ghost use Rattle.hexadecimal.specs.Text.{lineOf};
 ghost use Rattle.frame_reader.specs.Lines.{longestSheet};
 ghost use Rattle.frame_writer.specs.Frames.{refusalBytes};
-ghost use Rattle.line_writer.specs.Page.{written};
+ghost use Rattle.line_writer.specs.Page.{numberOf, written};
 ghost use Rattle.host.specs.Host.{refusedLine, endOf, hostReply};
 ghost use Rattle.host.specs.Replies.{repliedOn};
+ghost use Rattle.host.specs.Imports.{importedOn};
 use calls::host_line;
 use filing::file_plan;
 use frame_reader::line_end;
+use frame_writer::write_machine;
+use frame_writer::write_refusal;
+use imports::find_machine;
 use line_writer::Placing;
 use planner::Roster;
 
@@ -95,14 +99,42 @@ pub extern "C" fn planner_refused_line(sheet: &[u8]) -> u32
     ended.line
 }
 
+// The number of an answer, as C has it.
+fn placing_number(placing: Placing) -> u32
+    ensures { λ r. ⌜ r ≡ numberOf placing ⌝ }
+{
+    match placing {
+        Placing::Written => 0,
+        Placing::NoRoom => 6,
+    }
+}
+
 // Frame 8E, the refusal of a line.
 #[no_mangle]
 pub extern "C" fn planner_write_refusal(line: u32, number: u8, page: &mut [u8], place: usize) -> u32
     ensures { λ r. ⌜ repliedOn r (now (page .exit)) ≡ written (now (page .entry)) place (lineOf (refusalBytes line number)) ⌝ }
 {
-    let placing = frame_writer::write_refusal(line, number, page, place);
-    match placing {
-        Placing::Written => 0,
-        Placing::NoRoom => 6,
+    placing_number(write_refusal(line, number, page, place))
+}
+
+// Frame 01 of the machine that a list of frequencies gives.
+#[no_mangle]
+pub extern "C" fn planner_import(processors: u64, list: &[u8], page: &mut [u8], place: usize) -> u32
+    ensures { λ r. ⌜ repliedOn r (now (page .exit)) ≡ importedOn processors (now (list .entry)) (now (page .entry)) place ⌝ }
+{
+    let found = find_machine(processors, list);
+    let answer = found.answer;
+    let reply = answer.number();
+    if reply != 0 {
+        return reply as u32;
     }
+    let machine = found.machine;
+    placing_number(write_machine(
+        machine.processors,
+        machine.levels,
+        machine.lowest,
+        machine.step as u16,
+        page,
+        place,
+    ))
 }

@@ -1,4 +1,4 @@
-//! The product's three C calls. This is the only module with unsafe code.
+//! The product's four C calls. This is the only module with unsafe code.
 
 extern "C" {
     fn planner_plan_sheet(
@@ -10,6 +10,14 @@ extern "C" {
     ) -> u32;
     fn planner_write_refusal(line: u32, number: u8, page: *mut u8, page_length: usize, place: usize) -> u32;
     fn planner_refused_line(sheet: *const u8, sheet_length: usize) -> u32;
+    fn planner_import(
+        processors: u64,
+        list: *const u8,
+        list_length: usize,
+        page: *mut u8,
+        page_length: usize,
+        place: usize,
+    ) -> u32;
 }
 
 // An empty slice is lent as NULL: the header allows it, and the calls must not touch it.
@@ -44,4 +52,10 @@ pub fn write_refusal(line: u32, number: u8, page: &mut [u8], place: usize) -> u3
 pub fn refused_line(sheet: &[u8]) -> u32 {
     // SAFETY: the pointer comes from a live slice with this length.
     unsafe { planner_refused_line(lent(sheet), sheet.len()) }
+}
+
+pub fn import(processors: u64, list: &[u8], page: &mut [u8], place: usize) -> u32 {
+    let length = page.len();
+    // SAFETY: both pointers come from live slices with these lengths, and the borrows rule out an overlap.
+    unsafe { planner_import(processors, lent(list), list.len(), lent_page(page), length, place) }
 }

@@ -87,7 +87,7 @@ pub fn cycle_and_works(jobs: &[(u64, u64)]) -> (u64, Vec<u64>) {
 pub struct Filed {
     jobs: u64,
     cycle: u64,
-    power: u64,
+    pub power: u64,
     raises: u64,
     pub levels: Vec<usize>,
 }

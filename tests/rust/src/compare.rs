@@ -21,7 +21,7 @@ pub struct Difference {
     pub product: String,
 }
 
-fn differ(what: &str, second: impl std::fmt::Debug, product: impl std::fmt::Debug) -> Option<Difference> {
+pub fn differ(what: &str, second: impl std::fmt::Debug, product: impl std::fmt::Debug) -> Option<Difference> {
     Some(Difference { second: format!("{what}: {second:?}"), product: format!("{what}: {product:?}") })
 }
 
@@ -55,7 +55,7 @@ pub const WITHOUT_ROOM: [Relation; 8] = [
 
 impl Relation {
     /// The page's length and the place for a frame of this length.
-    fn page(self, frame: usize, random: &mut Random) -> (usize, usize) {
+    pub fn page(self, frame: usize, random: &mut Random) -> (usize, usize) {
         let some = random.between(1, 60) as usize;
         match self {
             Relation::Exact => (frame, 0),
@@ -76,18 +76,18 @@ impl Relation {
 const GUARD: usize = 48;
 
 /// A page with guard bytes around it, all filled with a pattern, so that a stray write shows.
-struct Lent {
+pub struct Lent {
     bytes: Vec<u8>,
     length: usize,
 }
 
 impl Lent {
-    fn new(length: usize, start: u8) -> Self {
+    pub fn new(length: usize, start: u8) -> Self {
         let pattern = |place: usize| (place as u8).wrapping_mul(37).wrapping_add(start);
         Lent { bytes: (0..length + 2 * GUARD).map(pattern).collect(), length }
     }
 
-    fn page(&mut self) -> &mut [u8] {
+    pub fn page(&mut self) -> &mut [u8] {
         &mut self.bytes[GUARD..GUARD + self.length]
     }
 }
@@ -169,7 +169,7 @@ pub fn refusal_call(line: u32, number: u8, relation: Relation, seed: u64) -> Opt
 }
 
 // Shown is the page from the first byte that differs; a byte outside the page has been written where none may be.
-fn differ_in_page(second: &Lent, product: &Lent) -> Option<Difference> {
+pub fn differ_in_page(second: &Lent, product: &Lent) -> Option<Difference> {
     let first = (0..second.bytes.len()).find(|&place| second.bytes[place] != product.bytes[place])?;
     let part = |lent: &Lent| shown(&lent.bytes[first..lent.bytes.len().min(first + 89)]);
     let what = format!("page of {} bytes, from byte {}", second.length, first as i64 - GUARD as i64);

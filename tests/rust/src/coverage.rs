@@ -3,9 +3,9 @@
 use crate::brute::Met;
 use crate::brute_slack;
 use crate::compare::{Relation, WITHOUT_ROOM, WITH_ROOM};
-use crate::facts::{Facts, LENGTHS, MARKS};
+use crate::facts::{Due, Facts, LENGTHS, MARKS};
 use crate::planner::frames::KINDS;
-use crate::planner::refusal::{OF_A_LINE, OF_THE_CALL};
+use crate::planner::refusal::{OF_AN_IMPORT, OF_A_LINE, OF_THE_CALL};
 use crate::sheets::Side;
 use crate::tally::Tally;
 
@@ -81,11 +81,30 @@ impl Table {
         self.add(format!("{name}: least met of all {} wrong digits", met.len()), least(&met));
     }
 
-    pub fn of_pages(&mut self, facts: &Facts) {
+    pub fn of_pages(&mut self, name: &str, facts: &Facts) {
         let relations: Vec<Relation> = WITH_ROOM.iter().chain(&WITHOUT_ROOM).copied().collect();
         for relation in relations {
-            self.add(format!("host: page {relation:?}"), facts.relations[relation as usize]);
+            self.add(format!("{name}: page {relation:?}"), facts.relations[relation as usize]);
         }
+    }
+
+    pub fn of_imports(&mut self, facts: &Facts) {
+        for &(mark, due, text) in MARKS {
+            if due == Due::Import {
+                self.add(format!("import: {text}"), facts.count(mark));
+            }
+        }
+        for number in OF_AN_IMPORT {
+            self.add(format!("import: refusal {number}"), facts.imported[usize::from(number)]);
+        }
+        self.add("import: no refusal".into(), facts.imported[0]);
+        for (ending, name) in ["nothing", "a blank", "a line feed", "a blank and a line feed"].iter().enumerate() {
+            let met: Vec<u64> = facts.list_counts[1..].iter().map(|endings| endings[ending]).collect();
+            self.add(format!("import: least met of 1 to 32 numbers that end with {name}"), least(&met));
+        }
+        let wrong = (0..=255u8).filter(|byte| !byte.is_ascii_digit() && ![b' ', b'\n'].contains(byte));
+        let met: Vec<u64> = wrong.map(|byte| facts.list_bytes[usize::from(byte)]).collect();
+        self.add(format!("import: least met of the {} bytes that no list has", met.len()), least(&met));
     }
 
     pub fn of_brute_force(&mut self, met: &Met, slack_met: &brute_slack::Met) {

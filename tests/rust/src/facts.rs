@@ -1,5 +1,5 @@
-//! What the sheets of a run really met, counted by the second planner while it reads them. The run fails where a fact never
-//! occurred.
+//! What the sheets and lists of a run really met, counted by the second planner while it reads them. The run fails where a fact
+//! never occurred.
 
 use crate::sheets::Side;
 
@@ -14,6 +14,8 @@ pub enum Due {
     /// At the desk and in the library call.
     Slack,
     Every,
+    /// In the import of a frequency list, which is no side of a sheet.
+    Import,
 }
 
 impl Due {
@@ -25,6 +27,7 @@ impl Due {
             Due::Library => side == Side::Library,
             Due::Slack => side != Side::Host,
             Due::Every => true,
+            Due::Import => false,
         }
     }
 }
@@ -142,6 +145,71 @@ marks! {
     AskedTopLeast Library "a job with Q = 1",
     AskedLongestCycle Library "a job with H = 16,777,215",
     AskedCycleGrows Library "a job that makes the cycle longer",
+    ProcessorsBeforeList Import "1 where 18 holds too",
+    ProcessorsBeforeGaps Import "1 where 19 holds too",
+    ProcessorsBeforeTop Import "1 where 2 holds too",
+    ProcessorsBeforeRoom Import "1 where 6 holds too",
+    ProcessorsAlone Import "1 where no other refusal holds",
+    ProcessorsNone Import "1 for no processor",
+    ProcessorsOneMore Import "1 for 33 processors",
+    ProcessorsLow8 Import "1 where the low 8 bits are 1 to 32",
+    ProcessorsLow16 Import "1 where the low 16 bits are 1 to 32",
+    ProcessorsLow32 Import "1 where the low 32 bits are 1 to 32",
+    ProcessorsMost Import "1 for the largest number of 64 bits",
+    ListBeforeGaps Import "18 where the gaps of its numbers differ",
+    ListBeforeSpeeds Import "18 where the top speed of its numbers is above 256",
+    ListBeforeRoom Import "18 where 6 holds too",
+    GapsBeforeSpeeds Import "19 where 2 holds too",
+    GapsBeforeRoom Import "19 where 6 holds too",
+    GapsAlone Import "19 where neither 2 nor 6 holds",
+    GapsByOne Import "19 where the gaps differ by one at most",
+    GapsAtEnd Import "19 for the last gap alone",
+    GapsEvenEnds Import "19 where the highest number is where even gaps would have it",
+    SpeedsBeforeRoom Import "2 where 6 holds too",
+    ListTopBeyond Import "2 with a top speed of 257",
+    ListTopFar Import "2 with a lowest speed or a step that 16 bits would cut into its range",
+    ListTopMost Import "an import with a top speed of 256",
+    ListRising Import "an import of numbers from the lowest",
+    ListFalling Import "an import of numbers from the highest",
+    ListUnsorted Import "an import of numbers in no order",
+    ListStepAboveLowest Import "an import with a step above the lowest speed",
+    ListLowestAboveStep Import "an import with a lowest speed above a step above 1",
+    ListUndivided Import "an import of numbers that are their own speeds",
+    ListDivided Import "an import of numbers with a common divisor above 65,535",
+    ListSingleSmall Import "an import of one number from 2 to 256",
+    ListSingleLarge Import "an import of one number above 256",
+    NumberOne Import "an import of the number 1 alone",
+    NumberLargest Import "an import with the number 4,294,967,295",
+    NumberBeyond Import "18 with the number 4,294,967,296",
+    NumberLow32 Import "18 where a number's low 32 bits would make a list",
+    NumberLow64 Import "18 where a number's low 64 bits would make a list",
+    NumberBeyond128 Import "18 with a number of 2^128 or more",
+    NumberLong Import "18 with a number of 1,000 digits or more",
+    NumberZero Import "18 for a number 0 alone",
+    NumberLeadingZero Import "18 for a leading zero alone",
+    NumberSigned Import "18 for a sign alone",
+    NumberRepeated Import "18 for a repeated number alone",
+    NumberRepeatedEven Import "18 for a repeated number among numbers with even gaps",
+    NumberRepeatedFirst Import "18 for a second of 32 numbers that repeats the first",
+    NumberRepeatedLast Import "18 for a 32nd number that repeats another",
+    Numbers33 Import "18 for 33 different numbers",
+    Numbers33Repeated Import "18 for 33 numbers, one of them twice",
+    NumbersMany Import "18 for 64 different numbers or more",
+    ListEmpty Import "18 for an empty list",
+    ListBlank Import "18 for a blank alone",
+    ListLineFeed Import "18 for a line feed alone",
+    ListBlankAndLineFeed Import "18 for a blank and a line feed alone",
+    BlankFirst Import "18 for a leading blank alone",
+    BlankTwice Import "18 for two blanks between alone",
+    BlankTwiceAtEnd Import "18 for two blanks at the end alone",
+    BlankAfterLineFeed Import "18 for a blank after the line feed alone",
+    LineFeedTwice Import "18 for a second line feed alone",
+    LineFeedBetween Import "18 for a line feed between numbers alone",
+    TabBetween Import "18 for a tab between numbers alone",
+    ReturnAtEnd Import "18 for a carriage return before the line feed alone",
+    ImportPlanned Import "a plan for some jobs on an imported machine",
+    ImportPlannedEmpty Import "a plan for no jobs on an imported machine",
+    ImportHeavy Import "17 on an imported machine",
 }
 
 /// One more than the longest kind 02 that is tried, in bytes after the kind.
@@ -170,6 +238,11 @@ pub struct Facts {
     /// Replies of the library call by their number, and those that do not fit the admission that follows.
     pub asked: [u64; 18],
     pub contradictions: u64,
+    /// Replies of the import by their number; lists accepted by the count of their numbers and their ending.
+    pub imported: [u64; 20],
+    pub list_counts: [[u64; 4]; 33],
+    /// Lists that are none for the sake of one byte that no list has.
+    pub list_bytes: [u64; 256],
     pub marks: [u64; MARKS.len()],
 }
 
@@ -189,6 +262,9 @@ impl Facts {
             remainders: [0; 256],
             asked: [0; 18],
             contradictions: 0,
+            imported: [0; 20],
+            list_counts: [[0; 4]; 33],
+            list_bytes: [0; 256],
             marks: [0; MARKS.len()],
         }
     }

@@ -1,4 +1,5 @@
-//! A second planner, written from document 01 and the requests in 02 alone, compared with the product on random sheets.
+//! A second planner, written from document 01 and the requests in 02 alone, compared with the product on random sheets and
+//! frequency lists.
 //!
 //! `second_planner [seed]`: without a seed all fixed seeds are run, and every fact of the coverage table must have been met. The
 //! environment names the desk program in STUDIO_DESK, and in SLACK_TRIALS the one that asks the library call before every
@@ -19,6 +20,10 @@ mod coverage;
 #[forbid(unsafe_code)]
 mod facts;
 #[forbid(unsafe_code)]
+mod imports;
+#[forbid(unsafe_code)]
+mod lists;
+#[forbid(unsafe_code)]
 mod planner;
 #[forbid(unsafe_code)]
 mod random;
@@ -33,7 +38,7 @@ mod tally;
 #[forbid(unsafe_code)]
 mod trials;
 
-use facts::{Facts, Mark};
+use facts::{Due, Facts, Mark};
 use planner::astray::{Astray, ALL};
 use planner::refusal::NO_PLAN;
 use random::Random;
@@ -158,10 +163,16 @@ fn run(programs: &Programs, seeds: &[(usize, u64)], full: bool, tally: &mut Tall
             sweep_side(side, programs.of(side), seeds, full, &mut facts, tally);
             table.of_side(side, &facts);
             if side == Side::Host {
-                table.of_pages(&facts);
+                table.of_pages(side.name(), &facts);
             }
         });
     }
+    timed("import", || {
+        let mut facts = Facts::new();
+        imports::run(seeds, SEEDS.len(), full, &mut facts, tally);
+        table.of_imports(&facts);
+        table.of_pages("import", &facts);
+    });
     timed("refusal frames", || refusal_frames(seeds, tally));
     timed("brute force", || {
         let mut met = brute::Met::default();
@@ -176,6 +187,7 @@ fn run(programs: &Programs, seeds: &[(usize, u64)], full: bool, tally: &mut Tall
     });
     if full {
         timed("wrong planners", || wrong_planners(programs, tally));
+        timed("wrong readers of lists", || imports::wrong_readers(SEEDS[0], tally));
         table.close(tally);
     }
 }
@@ -247,7 +259,8 @@ fn refusal_frames(seeds: &[(usize, u64)], tally: &mut Tally) {
 /// Each wrong planner must be found on every side where it shows.
 fn wrong_planners(programs: &Programs, tally: &mut Tally) {
     let mut small = 0;
-    for &(astray, due, name) in ALL {
+    let of_sheets = ALL.iter().filter(|(_, due, _)| *due != Due::Import);
+    for &(astray, due, name) in of_sheets.clone() {
         let mut sizes = Vec::new();
         for side in Side::ALL.into_iter().filter(|&side| due.at(side)) {
             let place = side.name();
@@ -262,7 +275,7 @@ fn wrong_planners(programs: &Programs, tally: &mut Tally) {
         println!("{name}: {result}");
     }
     // Some need 64 jobs or the longest sheet; the others come down to a few lines where the shrinker does its work.
-    tally.check("wrong planners show on small sheets", small > ALL.len());
+    tally.check("wrong planners show on small sheets", small > of_sheets.count());
     for astray in FOUND_BY_ADMISSION {
         let found = sweep::contradicts_itself(astray, SEEDS[0]);
         tally.check(&format!("the admission contradicts a wrong library call: {astray:?}"), found);

@@ -1,12 +1,17 @@
-//! Makes a sheet on which two planners differ as small as it goes: lines out, then bytes out, then digits down.
+//! Makes a sheet or a list on which two planners differ as small as it goes: lines or numbers out, then bytes out, then digits
+//! down.
+
+/// What ends a piece: a line of a sheet, or a number of a list.
+pub const LINE_END: u8 = b'\n';
+pub const NUMBER_END: u8 = b' ';
 
 /// Shrinks while `differs` holds. A probe costs one and one more for every 256 bytes; at the end of the budget the best so far
 /// stands.
-pub fn shrink(sheet: &[u8], budget: usize, differs: &mut dyn FnMut(&[u8]) -> bool) -> Vec<u8> {
-    let mut shrinker = Shrinker { best: sheet.to_vec(), budget, differs };
+pub fn shrink(sheet: &[u8], end: u8, budget: usize, differs: &mut dyn FnMut(&[u8]) -> bool) -> Vec<u8> {
+    let mut shrinker = Shrinker { best: sheet.to_vec(), end, budget, differs };
     loop {
         let before = shrinker.best.clone();
-        shrinker.drop_lines();
+        shrinker.drop_pieces();
         shrinker.drop_bytes();
         shrinker.lower_digits();
         if shrinker.best == before || shrinker.budget == 0 {
@@ -17,6 +22,7 @@ pub fn shrink(sheet: &[u8], budget: usize, differs: &mut dyn FnMut(&[u8]) -> boo
 
 struct Shrinker<'a> {
     best: Vec<u8>,
+    end: u8,
     budget: usize,
     differs: &'a mut dyn FnMut(&[u8]) -> bool,
 }
@@ -34,17 +40,17 @@ impl Shrinker<'_> {
         better
     }
 
-    /// Drops runs of lines, the long runs first.
-    fn drop_lines(&mut self) {
-        let mut run = self.ends_of_lines().len() - 1;
+    /// Drops runs of pieces, the long runs first.
+    fn drop_pieces(&mut self) {
+        let mut run = self.ends_of_pieces().len() - 1;
         while run > 0 {
             let mut start = 0;
-            let mut ends = self.ends_of_lines();
+            let mut ends = self.ends_of_pieces();
             while start + 1 < ends.len() && self.budget > 0 {
                 let end = (start + run).min(ends.len() - 1);
                 let rest = [&self.best[..ends[start]], &self.best[ends[end]..]].concat();
                 if self.try_instead(rest) {
-                    ends = self.ends_of_lines();
+                    ends = self.ends_of_pieces();
                 } else {
                     start += run;
                 }
@@ -53,7 +59,7 @@ impl Shrinker<'_> {
         }
     }
 
-    /// Drops bytes one by one and in pairs, which keep a line even. Long sheets are left to the lines.
+    /// Drops bytes one by one and in pairs, which keep a line even. Long sheets are left to the pieces.
     fn drop_bytes(&mut self) {
         for run in [8, 2, 1] {
             let mut start = 0;
@@ -86,11 +92,11 @@ impl Shrinker<'_> {
         }
     }
 
-    /// 0, then where each line ends, its 0A included.
-    fn ends_of_lines(&self) -> Vec<usize> {
+    /// 0, then where each piece ends, the byte that ends it included.
+    fn ends_of_pieces(&self) -> Vec<usize> {
         let mut ends = vec![0];
-        for line in self.best.split_inclusive(|&byte| byte == b'\n') {
-            ends.push(ends[ends.len() - 1] + line.len());
+        for piece in self.best.split_inclusive(|&byte| byte == self.end) {
+            ends.push(ends[ends.len() - 1] + piece.len());
         }
         ends
     }

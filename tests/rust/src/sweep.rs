@@ -7,7 +7,7 @@ use crate::planner::library::printed;
 use crate::planner::refusal::NO_PLAN;
 use crate::random::Random;
 use crate::sheets::{Family, Side, FAMILIES};
-use crate::shrink::{shown, shrink};
+use crate::shrink::{shown, shrink, LINE_END};
 use crate::tally::Tally;
 use std::path::Path;
 
@@ -48,7 +48,7 @@ impl<'a> Trial<'a> {
             (_, Side::Host) => 2_000,
             (_, _) => 80,
         };
-        shrink(sheet, budget, &mut |sheet| self.difference(sheet, &mut Facts::new()).is_some())
+        shrink(sheet, LINE_END, budget, &mut |sheet| self.difference(sheet, &mut Facts::new()).is_some())
     }
 }
 

@@ -1,8 +1,9 @@
-//! Trials with known results: document 01's own numbers, and those of the slack, worked out by hand.
+//! Trials with known results: document 01's own numbers, and those of the slack and of the import, worked out by hand.
 
 use crate::brute::{product, second};
 use crate::compare::run;
 use crate::facts::Facts;
+use crate::imports::{of_product, of_second};
 use crate::planner::desk::printed;
 use crate::planner::library;
 use crate::tally::Tally;
@@ -145,6 +146,71 @@ const HOST: &[(&str, &str, u32, &str)] = &[
     ("a job too many after a slack line", "01010400010001\n07\n03000100020001\n", 17, ""),
 ];
 
+/// Processors, list, reply of the import and the digits of the machine line that it writes.
+const IMPORTS: &[(u64, &str, u32, &str)] = &[
+    // Divided by 100,000: 6 to 18.
+    (
+        4,
+        "600000 700000 800000 900000 1000000 1100000 1200000 1300000 1400000 1500000 1600000 1700000 1800000 \n",
+        0,
+        "01 04 0D 0006 0001",
+    ),
+    // Divided by 400,000: 6 5 4 3 2.
+    (8, "2400000 2000000 1600000 1200000 800000\n", 0, "01 08 05 0002 0001"),
+    (1, "8 5 11", 0, "01 01 03 0005 0003"),
+    (2, "6 4 8 ", 0, "01 02 03 0002 0001"),
+    (1, "1431655765 4294967295 2863311530", 0, "01 01 03 0001 0001"),
+    (
+        1,
+        "1 2 3 4 5 6 7 8 9 10 11 12 13 14 15 16 17 18 19 20 21 22 23 24 25 26 27 28 29 30 31 32",
+        0,
+        "01 01 20 0001 0001",
+    ),
+    (1, "1 2 3 4 5 6 7 8 9 10 11 12 13 14 15 16 17 18 19 20 21 22 23 24 25 26 27 28 29 30 31 32 33", 18, ""),
+    // One number has speed 1 and step 1, whatever it is.
+    (1, "1", 0, "01 01 01 0001 0001"),
+    (32, "1500000\n", 0, "01 20 01 0001 0001"),
+    (31, "4294967295 \n", 0, "01 1F 01 0001 0001"),
+    // The top speed: 256 passes; 257 does not, unless its numbers have a common divisor.
+    (1, "1 256", 0, "01 01 02 0001 00FF"),
+    (1, "256 255", 0, "01 01 02 00FF 0001"),
+    (1, "257 1", 2, ""),
+    (1, "257 514", 0, "01 01 02 0001 0001"),
+    (1, "4294967295 4294967294", 2, ""),
+    (1, "1 2 4", 19, ""),
+    (1, "1 2 400", 19, ""),
+    (1, "1 3 4 6", 19, ""),
+    (1, "", 18, ""),
+    (1, " ", 18, ""),
+    (1, "\n", 18, ""),
+    (1, " \n", 18, ""),
+    (1, " 1", 18, ""),
+    (1, "1  ", 18, ""),
+    (1, "1\n ", 18, ""),
+    (1, "1\n\n", 18, ""),
+    (1, "1 \n2", 18, ""),
+    (1, "1  2", 18, ""),
+    (1, "1\t2", 18, ""),
+    (1, "1\n2", 18, ""),
+    (1, "1\r\n", 18, ""),
+    (1, "0", 18, ""),
+    (1, "0 1", 18, ""),
+    (1, "01", 18, ""),
+    (1, "+1", 18, ""),
+    (1, "-1", 18, ""),
+    (1, "1,2", 18, ""),
+    (1, "1 1", 18, ""),
+    (1, "1 2 400 1", 18, ""),
+    (1, "4294967296", 18, ""),
+    (1, "18446744073709551617", 18, ""),
+    (1, "340282366920938463463374607431768211457", 18, ""),
+    (0, "1", 1, ""),
+    (33, "", 1, ""),
+    (260, "1 2 4", 1, ""),
+    (4_294_967_300, "1 257", 1, ""),
+    (u64::MAX, "1", 1, ""),
+];
+
 /// The program's line for one call: 32 entries, every remainder 0.
 fn asked_line(number: u8, ticks: &[i64]) -> String {
     let entry = |place: usize| format!(" {} 0", ticks.get(place).copied().unwrap_or(0));
@@ -197,5 +263,22 @@ pub fn run_all(programs: &Programs, tally: &mut Tally) {
         tally.check(&format!("trial of the library call, second planner: {name}"), given == due.as_bytes());
         let given = run(&programs.library, sheet.as_bytes());
         tally.check(&format!("trial of the library call, program: {name}"), given == Ok(due.into_bytes()));
+    }
+    imports(tally);
+}
+
+fn imports(tally: &mut Tally) {
+    for &(processors, list, reply, digits) in IMPORTS {
+        let mut line = digits.replace(' ', "").into_bytes();
+        if reply == 0 {
+            line.push(b'\n');
+        }
+        let due = (reply, line);
+        let name = format!("{processors} processors, {list:?}");
+        tally.check(
+            &format!("trial of the import, second planner: {name}"),
+            of_second(processors, list.as_bytes(), None) == due,
+        );
+        tally.check(&format!("trial of the import: {name}"), of_product(processors, list.as_bytes()) == due);
     }
 }

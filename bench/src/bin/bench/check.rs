@@ -1,7 +1,8 @@
-//! Random sheets on which the two sides must agree.
+//! Random sheets and frequency lists on which the two sides must agree.
 
 use crate::draft::{Draft, FULL, LARGE, QUARTERS};
-use crate::measure::{same_call, same_frames, Desks};
+use crate::frequencies;
+use crate::measure::{same_call, same_frames, same_import, Desks};
 use crate::mixtures::sheet;
 use crate::random::Random;
 use std::collections::{BTreeMap, BTreeSet};
@@ -51,6 +52,25 @@ pub fn run(sheets: u64, desks: &Desks) -> Result<(), String> {
     println!("  replies: {:?}", met.replies);
     println!("the desk programs: {desk_sheets} sheets agree");
     println!("  frames, a plan as 81, slack as 83, a refusal as its number: {:?}", met.frames);
+    imports(sheets)
+}
+
+/// The import of so many lists, most of them for a page with room.
+fn imports(lists: u64) -> Result<(), String> {
+    let mut random = Random::new(SEED);
+    let mut replies: BTreeMap<u32, u64> = BTreeMap::new();
+    for _ in 0..lists {
+        let list = frequencies::any(&mut random);
+        let processors = match random.between(1, 20) {
+            1 => random.choose(&[0, 33, 256, 257, 1 << 32, (1 << 32) + 4, u64::MAX]),
+            _ => u64::from(random.between(1, 32)),
+        };
+        let place = if random.one_in(2) { 0 } else { random.index(20) };
+        let length = place + if random.one_in(8) { random.index(15) } else { 15 + random.index(3) };
+        *replies.entry(same_import(processors, &list, length, place)?).or_default() += 1;
+    }
+    println!("the import: {lists} lists agree");
+    println!("  replies: {replies:?}");
     Ok(())
 }
 

@@ -33,7 +33,7 @@ impl Series<'_> {
     /// For the host's call some sheets that end in a plan; for the desk one with plans wanted in a quarter of its
     /// length.
     fn add_plan(&mut self, name: &str, x: usize, machine: Machine, draw: impl Fn(&mut Random) -> Vec<Job>) {
-        let sheets = if self.section.is_host() {
+        let sheets = if self.section.is_call() {
             (0..8).map(|_| roster(machine, &draw(self.random))).collect()
         } else {
             vec![plans(machine, &draw(self.random), self.length / 4)]

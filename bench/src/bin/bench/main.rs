@@ -1,8 +1,8 @@
-//! Times the product against the yardstick: the host's call in process, the desk program as a process, and how both
-//! grow.
+//! Times the product against the yardstick: the host's call and the import in process, the desk program as a process,
+//! and how call and program grow.
 //!
-//! `bench [--quick] [--only WORD] [--tsv FILE]` times; `bench --check N` compares the answers on N random sheets. The
-//! environment names the product's desk program in STUDIO_DESK and the yardstick's in YARDSTICK_DESK.
+//! `bench [--quick] [--only WORD] [--tsv FILE]` times; `bench --check N` compares the answers on N random sheets
+//! and lists. The environment names the product's desk program in STUDIO_DESK and the yardstick's in YARDSTICK_DESK.
 
 #![deny(unsafe_code)]
 
@@ -12,8 +12,10 @@ mod case;
 mod check;
 mod desk_cases;
 mod draft;
+mod frequencies;
 mod growth_cases;
 mod host_cases;
+mod import_cases;
 mod lines;
 mod measure;
 mod mixtures;
@@ -28,7 +30,7 @@ mod turned_down;
 
 use case::{Case, Section};
 use draft::FULL;
-use measure::{desk_case, host_case, Desks};
+use measure::{call_case, desk_case, Desks};
 use options::Options;
 use programs::{Files, Program};
 use random::Random;
@@ -75,7 +77,7 @@ fn desks() -> Result<Desks, String> {
 
 fn effort(quick: bool, section: Section) -> Effort {
     let milliseconds = Duration::from_millis;
-    match (quick, section.is_host()) {
+    match (quick, section.is_call()) {
         (true, true) => Effort { fewest: 3, most: 5, budget: milliseconds(5), round: milliseconds(0) },
         (true, false) => Effort { fewest: 3, most: 5, budget: milliseconds(10), round: milliseconds(0) },
         (false, true) => Effort { fewest: 31, most: 61, budget: milliseconds(300), round: milliseconds(2) },
@@ -89,6 +91,7 @@ fn cases(section: Section, quick: bool) -> Vec<Case> {
     let mut random = Random::new(SEED);
     match section {
         Section::Host => host_cases::all(length, &mut random),
+        Section::Import => import_cases::all(&mut random),
         Section::Desk => desk_cases::all(length, &mut random),
         Section::HostGrowth | Section::DeskGrowth => growth_cases::all(section, length, &mut random),
     }
@@ -104,15 +107,15 @@ fn time_section(section: Section, options: &Options, desks: &Desks, report: &mut
     report.title(section.title());
     let mut starts = Vec::new();
     for case in &cases {
-        if section.is_host() {
-            report.row(case, host_case(case, &effort)?, 0.0);
+        if section.is_call() {
+            report.row(case, call_case(case, &effort)?, 0.0);
         } else {
             let times = desk_case(case, desks, &effort)?;
             report.row(case, times.sheet, times.start.ours / 30.0);
             starts.push(times.start);
         }
     }
-    if !section.is_host() {
+    if !section.is_call() {
         report.row(&Case::desk(desk_cases::EMPTY, Vec::new()), middle(&starts), 0.0);
     }
     Ok(())

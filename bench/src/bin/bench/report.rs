@@ -13,11 +13,11 @@ pub struct Report {
 pub const HEAD: &str = "\
 Times in microseconds for each call or sheet; ratio = product / yardstick, below 1 the product is the faster.
 Both sides gave the same answers before they were timed. They take turns, the order swapped every round; the first
-rounds don't count. The host's call: the median of the rounds, each some milliseconds of repetitions over sheets of a
-kind. The desk program: the lower quartile of the runs (steadier than their median and than the shortest), less that of
-an empty sheet, which is run in the same rounds. Sheet and frames are files in memory; the frames are written over
-those of the run before. ~ marks a ratio with a time below a thirtieth of the program's start, which is hardly more
-than the noise.";
+rounds don't count. The host's call and the import: the median of the rounds, each some milliseconds of repetitions
+over sheets or lists of a kind. The desk program: the lower quartile of the runs (steadier than their median and than
+the shortest), less that of an empty sheet, which is run in the same rounds. Sheet and frames are files in memory; the
+frames are written over those of the run before. ~ marks a ratio with a time below a thirtieth of the program's start,
+which is hardly more than the noise.";
 
 impl Report {
     pub fn title(&self, title: &str) {

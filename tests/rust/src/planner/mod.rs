@@ -1,5 +1,5 @@
-//! The second planner: document 01 and request 2026-01 written down once more, for clarity and not for speed. It shares nothing
-//! with the product.
+//! The second planner: document 01 and requests 2026-01 and 2026-02 written down once more, for clarity and not for speed. It
+//! shares nothing with the product.
 
 pub mod astray;
 pub mod book;
@@ -8,6 +8,8 @@ pub mod desk;
 pub mod frames;
 pub mod growing;
 pub mod host;
+pub mod import;
+pub mod import_notes;
 pub mod library;
 pub mod machine;
 pub mod power;

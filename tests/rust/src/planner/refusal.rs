@@ -1,4 +1,4 @@
-//! The refusal numbers of document 01.
+//! The refusal numbers of document 01 and the requests in 02.
 
 pub type Refusal = u8;
 
@@ -15,9 +15,14 @@ pub const ID_NOT_HELD: Refusal = 14;
 pub const PLACES_FULL: Refusal = 15;
 pub const CYCLE_TOO_LONG: Refusal = 16;
 pub const NO_PLAN: Refusal = 17;
+pub const NOT_A_LIST: Refusal = 18;
+pub const UNEVEN_GAPS: Refusal = 19;
 
 /// Every number that a line of a sheet can meet.
 pub const OF_A_LINE: [Refusal; 12] = [1, 2, 3, 4, 5, 11, 12, 13, 14, 15, 16, 17];
 
 /// Every number that the library call can meet: those of an admission, and never 17.
 pub const OF_THE_CALL: [Refusal; 5] = [11, 4, 13, 15, 16];
+
+/// Every number that an import can meet, in their order.
+pub const OF_AN_IMPORT: [Refusal; 5] = [1, 18, 19, 2, 6];

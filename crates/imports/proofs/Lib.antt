@@ -1,0 +1,4 @@
+pub mod AcceptanceTrials
+pub mod Replies
+pub mod Rules
+pub mod Results
