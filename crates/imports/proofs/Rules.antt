@@ -14,7 +14,7 @@ use Rattle.ranges.specs.Ranges.{oneTo, speedsFit}
 use Rattle.ranges.proofs.Results.{ranging}
 use Rattle.frequencies.specs.Lists.{isList}
 use Rattle.frequencies.specs.Grammar.{IsFrequencyList}
-use Rattle.frequencies.proofs.Members.{list-parts}
+use Rattle.frequencies.proofs.Members.{and-false, list-parts}
 use Rattle.frequencies.proofs.Results.{listing}
 use Rattle.clocks.specs.declared.Clock.{Clock}
 use Rattle.clocks.specs.declared.Clock.the-variants.{NoList, Uneven, Even}
@@ -72,11 +72,7 @@ module _ (numbers : List ℕ) (is : isList numbers ≡ true) where
 
   speeds-out : 256 < topOf numbers → speedsFit (length numbers) b d ≡ false
   unfolding speedsFit
-  speeds-out h = and-false (oneTo 32 (length numbers) && oneTo 256 b && oneTo 255 d) (lt-leb (topOf numbers) 256 h)
-    where
-      and-false : (p : Bool) {q : Bool} → q ≡ false → (p && q) ≡ false
-      and-false true e = e
-      and-false false e = refl
+  speeds-out h = and-false (oneTo 32 (length numbers) && oneTo 256 b && oneTo 255 d) _ (lt-leb (topOf numbers) 256 h)
 
 -- ---- The machine call on the empty model
 
