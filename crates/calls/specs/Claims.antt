@@ -11,7 +11,8 @@ use Rattle.frame_reader.specs.Frames.{saidBy}
 use Rattle.planner.specs.declared.Roster.{Roster}
 use Rattle.planner.specs.Model.{Opened, OpenMachine, ReplaceTable, Admit, Retire}
 use Rattle.planner.specs.Roster.{modelOf, rosterOf, wellFormed}
-use Rattle.planner.specs.Claims.{Kept, Offered, TurnedDown}
+use Rattle.selection.specs.Claims.{InTurn}
+use Rattle.planner.specs.Claims.{IsSound, WithOneMore, Kept, Offered, TurnedDown}
 use Rattle.imports.specs.Claims.{OrderRule, FollowRule}
 use Rattle.filing.specs.Plans.{planLine}
 use Rattle.filing.specs.Claims.{frameLength, FiledPlan}
@@ -101,8 +102,21 @@ pub record Demand3 (begins : Beginning) (calls : List Call) : Type 0 where
   -- the machine call.
   pub imports : (processors : ℕ) (list : List ℕ) → begins ≡ Import processors list → OrderRule processors list × FollowRule processors list
 
+-- ---- The jobs of a roster, one after the other
+
+-- 02, 2026-03: "… it finds the next largest work on the roster itself, from the job taken before. Show that this takes each job exactly once, works
+-- never rising, the lower id first among equals." `InTurn` says so of a list of jobs: here of the jobs of every roster with a machine that keeps the
+-- rules (each call looks at those first), so of those held after every list of calls; and of those with one more, as an offer that is accepted has them
+-- (`OfferRule`, field `one-more`), for which slack is asked.
+pub record HeldInTurn : Type 0 where
+  pub held : (r : Roster) → IsSound r → InTurn (take (r .held) (r .jobs))
+  pub after-calls : (begins : Beginning) (calls : List Call) (M : Machine) (table : List ℕ) (jobs : List Job)
+      → modelAfter begins calls ≡ Opened M table jobs → InTurn jobs
+  pub with-one-more : (r : Roster) (jobs : List Job) → WithOneMore r jobs → InTurn jobs
+
 -- ---- All of it
 
 pub record Calling : Type 0 where
   pub ask-rule : (line : List ℕ) → AskRule line
   pub demand-3 : (begins : Beginning) (calls : List Call) → Demand3 begins calls
+  pub held-in-turn : HeldInTurn

@@ -1,4 +1,5 @@
 pub mod Examples
+pub mod Next
 pub mod Order
 pub mod Shares
 pub mod Sorted

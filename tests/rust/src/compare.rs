@@ -1,5 +1,5 @@
-//! The comparison of the second planner with the product: the archive's calls, the desk program, and the program that asks the
-//! library call before every admission.
+//! The comparison of the second planner with the product: the archive's calls, the desk program, the program that asks the library
+//! call before every admission, and the one that takes the jobs held at the end in their order.
 
 use crate::archive;
 use crate::facts::Facts;
@@ -9,6 +9,7 @@ use crate::planner::frames::refusal_frame;
 use crate::planner::host::{outcome, reply, write, Outcome};
 use crate::planner::library;
 use crate::planner::refusal::NO_ROOM;
+use crate::planner::turns;
 use crate::random::Random;
 use crate::shrink::shown;
 use std::io::{Read, Write};
@@ -184,6 +185,11 @@ pub fn desk(program: &Path, sheet: &[u8], astray: Option<Astray>, facts: &mut Fa
 /// One comparison of the library call, by the lines that are printed for the admissions of a sheet.
 pub fn library(program: &Path, sheet: &[u8], astray: Option<Astray>, facts: &mut Facts) -> Option<Difference> {
     differ_in_run(program, sheet, &library::printed(sheet, astray, facts))
+}
+
+/// One comparison of the order in which the jobs held at the end of a sheet are taken, by their ids.
+pub fn turns(program: &Path, sheet: &[u8], astray: Option<Astray>, facts: &mut Facts) -> Option<Difference> {
+    differ_in_run(program, sheet, &turns::printed(sheet, astray, facts))
 }
 
 fn differ_in_run(program: &Path, sheet: &[u8], due: &[u8]) -> Option<Difference> {

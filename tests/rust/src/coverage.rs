@@ -28,15 +28,26 @@ impl Table {
     }
 
     pub fn of_side(&mut self, side: Side, facts: &Facts) {
-        let name = side.name();
         self.marks(side, facts);
-        if side == Side::Library {
-            for number in OF_THE_CALL {
-                self.add(format!("{name}: refusal {number}"), facts.asked[usize::from(number)]);
+        match side {
+            Side::Host | Side::Desk => self.of_lines(side, facts),
+            Side::Library => {
+                for number in OF_THE_CALL {
+                    self.add(format!("library: refusal {number}"), facts.asked[usize::from(number)]);
+                }
+                self.add("library: no refusal".into(), facts.asked[0]);
             }
-            self.add(format!("{name}: no refusal"), facts.asked[0]);
-            return;
+            Side::Turns => {
+                for number in OF_A_LINE {
+                    let met = facts.admitted_after[usize::from(number)];
+                    self.add(format!("turns: a job admitted after refusal {number}"), met);
+                }
+            }
         }
+    }
+
+    fn of_lines(&mut self, side: Side, facts: &Facts) {
+        let name = side.name();
         for number in OF_A_LINE {
             self.add(format!("{name}: refusal {number}"), facts.refusals[usize::from(number)]);
         }

@@ -13,7 +13,10 @@ pub enum Due {
     Library,
     /// At the desk and in the library call.
     Slack,
+    /// Wherever a refusal shows: at the host, at the desk and in the library call.
     Every,
+    /// In the order in which the jobs held are taken.
+    Turns,
     /// In the import of a frequency list, which is no side of a sheet.
     Import,
 }
@@ -21,12 +24,13 @@ pub enum Due {
 impl Due {
     pub fn at(self, side: Side) -> bool {
         match self {
-            Due::Both => side != Side::Library,
+            Due::Both => matches!(side, Side::Host | Side::Desk),
             Due::Host => side == Side::Host,
             Due::Desk => side == Side::Desk,
             Due::Library => side == Side::Library,
-            Due::Slack => side != Side::Host,
-            Due::Every => true,
+            Due::Slack => matches!(side, Side::Desk | Side::Library),
+            Due::Every => side != Side::Turns,
+            Due::Turns => side == Side::Turns,
             Due::Import => false,
         }
     }
@@ -145,6 +149,33 @@ marks! {
     AskedTopLeast Library "a job with Q = 1",
     AskedLongestCycle Library "a job with H = 16,777,215",
     AskedCycleGrows Library "a job that makes the cycle longer",
+    TurnsNoMachine Turns "no machine",
+    TurnsNone Turns "a machine and no job held",
+    TurnsOne Turns "one job held",
+    Turns64 Turns "64 jobs held",
+    TurnsLongestCycle Turns "H = 16,777,215",
+    TieOfTwo Turns "a tie of two jobs with different costs",
+    TieOfMore Turns "a tie of three jobs or more",
+    TieOfMoreCosts Turns "a tie of three jobs or more, no two costs equal",
+    TieTwice Turns "two ties or more",
+    TieFirst Turns "a tie for the largest of several works",
+    TieLast Turns "a tie for the least of several works",
+    TieFull Turns "a tie of different costs, each equal to its period",
+    TieAll64 Turns "64 jobs held, all works equal",
+    TieAll64Costs Turns "64 jobs held, all works equal, not all costs",
+    TieNone64 Turns "64 jobs held, all works different",
+    TieLowerIdLater Turns "a later admission with a lower id in a tie",
+    TieAroundLargerWork Turns "a tie whose ids lie on both sides of a larger work's id",
+    TieLargestId Turns "id 65,535 in a tie",
+    TieAcross256 Turns "a tie with ids below 256 and from 256 on",
+    TieAcross32768 Turns "a tie with ids below 32,768 and from 32,768 on",
+    TieLeft Turns "a job retired from a tie",
+    TieLeftFirst Turns "the lowest id retired from a tie of three or more",
+    TieLeftBetween Turns "an id between two others retired from a tie",
+    CostLargerBefore Turns "a larger cost with a smaller work, of a lower id",
+    CostLargerAfter Turns "a larger cost with a smaller work, of a higher id",
+    WorksNext Turns "works that differ by one in a cycle above 65,535",
+    TurnsLastRefused Turns "a sheet whose last line is refused",
     ProcessorsBeforeList Import "1 where 18 holds too",
     ProcessorsBeforeGaps Import "1 where 19 holds too",
     ProcessorsBeforeTop Import "1 where 2 holds too",
@@ -238,6 +269,9 @@ pub struct Facts {
     /// Replies of the library call by their number, and those that do not fit the admission that follows.
     pub asked: [u64; 18],
     pub contradictions: u64,
+    /// Sheets for the order of the jobs with a job admitted after a line refused by the number, and those too long for one page.
+    pub admitted_after: [u64; 18],
+    pub beyond_page: u64,
     /// Replies of the import by their number; lists accepted by the count of their numbers and their ending.
     pub imported: [u64; 20],
     pub list_counts: [[u64; 4]; 33],
@@ -262,6 +296,8 @@ impl Facts {
             remainders: [0; 256],
             asked: [0; 18],
             contradictions: 0,
+            admitted_after: [0; 18],
+            beyond_page: 0,
             imported: [0; 20],
             list_counts: [[0; 4]; 33],
             list_bytes: [0; 256],

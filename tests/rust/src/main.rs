@@ -2,8 +2,8 @@
 //! frequency lists.
 //!
 //! `second_planner [seed]`: without a seed all fixed seeds are run, and every fact of the coverage table must have been met. The
-//! environment names the desk program in STUDIO_DESK, and in SLACK_TRIALS the one that asks the library call before every
-//! admission. The last line is 'N passed, M failed'.
+//! environment names the desk program in STUDIO_DESK, in SLACK_TRIALS the one that asks the library call before every admission,
+//! and in TURN_TRIALS the one that takes the jobs held at the end in their order. The last line is 'N passed, M failed'.
 
 #![deny(unsafe_code)]
 
@@ -56,6 +56,7 @@ const REFUSAL_CALLS: usize = 20_000;
 const LEAST_AT_HOST: usize = 100_000;
 const LEAST_AT_DESK: usize = 10_000;
 const LEAST_AT_LIBRARY: usize = 2_000;
+const LEAST_IN_TURNS: usize = 2_000;
 
 /// In bytes: four lines of a job.
 const SMALL_SHEET: usize = 60;
@@ -114,12 +115,13 @@ const FOUND_BY_ADMISSION: [Astray; 9] = [
 pub struct Programs {
     desk: PathBuf,
     library: PathBuf,
+    turns: PathBuf,
 }
 
 impl Programs {
     fn named() -> Self {
         let named = |name: &str| PathBuf::from(std::env::var_os(name).unwrap_or_default());
-        Programs { desk: named("STUDIO_DESK"), library: named("SLACK_TRIALS") }
+        Programs { desk: named("STUDIO_DESK"), library: named("SLACK_TRIALS"), turns: named("TURN_TRIALS") }
     }
 
     /// The program of a side; the host's call needs none.
@@ -127,6 +129,7 @@ impl Programs {
         match side {
             Side::Host | Side::Desk => &self.desk,
             Side::Library => &self.library,
+            Side::Turns => &self.turns,
         }
     }
 }
@@ -217,6 +220,9 @@ fn sweep_side(side: Side, program: &Path, seeds: &[(usize, u64)], full: bool, fa
         tally.check("a tick is below zero exactly where 17 follows", facts.contradictions == 0);
         tally.check("the library call never replies 17", facts.asked[usize::from(NO_PLAN)] == 0);
     }
+    if side == Side::Turns {
+        tally.check("the desk's output for a sheet fits one page", facts.beyond_page == 0);
+    }
     if full {
         let most = |mark: Mark| facts.count(mark) as usize * 2 > sum;
         let least = match side {
@@ -229,6 +235,7 @@ fn sweep_side(side: Side, program: &Path, seeds: &[(usize, u64)], full: bool, fa
                 LEAST_AT_DESK
             }
             Side::Library => LEAST_AT_LIBRARY,
+            Side::Turns => LEAST_IN_TURNS,
         };
         tally.check("number of sheets", sum >= least);
     }

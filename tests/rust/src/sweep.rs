@@ -1,6 +1,7 @@
-//! The sweep over all families, on the host's call, the desk program and the library call, and the search for wrong planners.
+//! The sweep over all families, on the host's call, the desk program, the library call and the order of the jobs, and the search
+//! for wrong planners.
 
-use crate::compare::{desk, host, library, Difference, Relation, WITHOUT_ROOM, WITH_ROOM};
+use crate::compare::{desk, host, library, turns, Difference, Relation, WITHOUT_ROOM, WITH_ROOM};
 use crate::facts::Facts;
 use crate::planner::astray::Astray;
 use crate::planner::library::printed;
@@ -36,6 +37,7 @@ impl<'a> Trial<'a> {
             Side::Host => host(sheet, &self.relations, self.seed, self.astray, facts),
             Side::Desk => desk(self.program, sheet, self.astray, facts),
             Side::Library => library(self.program, sheet, self.astray, facts),
+            Side::Turns => turns(self.program, sheet, self.astray, facts),
         }
     }
 

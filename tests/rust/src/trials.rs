@@ -1,4 +1,5 @@
-//! Trials with known results: document 01's own numbers, and those of the slack and of the import, worked out by hand.
+//! Trials with known results: document 01's own numbers, and those of the slack, of the import and of the order of the jobs, worked
+//! out by hand.
 
 use crate::brute::{product, second};
 use crate::compare::run;
@@ -6,6 +7,7 @@ use crate::facts::Facts;
 use crate::imports::{of_product, of_second};
 use crate::planner::desk::printed;
 use crate::planner::library;
+use crate::planner::turns;
 use crate::tally::Tally;
 use crate::Programs;
 
@@ -136,6 +138,39 @@ const ASKED: &[Asked] = &[
     ("lines that are no admission", "01010400010001\n05\n07\n040001\n0300010001000\n03000100010002", &[]),
 ];
 
+/// Name, sheet, and the ids of the jobs held at its end in the order in which they are taken.
+const TURNS: &[(&str, &str, &[u32])] = &[
+    ("the printed sheet", SHEET, &[1, 2, 3, 4, 5]),
+    ("an empty sheet", "", &[]),
+    ("no machine", "03000100010002\n05\n", &[]),
+    ("no job", "01040400010001\n05\n", &[]),
+    ("one job", "01040400010001\n03FFFF00010001\n", &[65_535]),
+    (
+        "2/8 and 1/4, 3/9 and 1/3",
+        "01040400010001\n03000900020008\n03000400010004\n03000700030009\n03000200010003\n",
+        &[2, 7, 4, 9],
+    ),
+    // In 3,000 ticks: 625, 1,000 and 300.
+    (
+        "costs that rise while works fall",
+        "01040400010001\n03000100050018\n03000200010003\n030003006403E8\n",
+        &[2, 1, 3],
+    ),
+    (
+        "costs equal to their periods, and 6/7",
+        "01040400010001\n03000100060007\n030004FFFFFFFF\n03000200010001\n03000300070007\n",
+        &[2, 3, 4, 1],
+    ),
+    // In 16,777,215 ticks: 2,049 x 4,095 = 8,390,655 and 2,048 x 4,097 = 8,390,656.
+    ("works that differ by one", "01040400010001\n03000108011001\n03000208000FFF\n", &[2, 1]),
+    (
+        "a tie with a job retired and others refused",
+        "01040400010001\n03000800030006\n03000300020004\n03000500010002\n040003\n03000500010001\n03000900030002\n\
+         0300010001000\n03000100010001",
+        &[5, 8],
+    ),
+];
+
 /// Name, sheet, reply of the host's call and the frame that it files.
 const HOST: &[(&str, &str, u32, &str)] = &[
     ("slack lines passed over", "07\n01010400010001\n07\n03000100010003\n07\n", 0, "8101 00000003 00000008 0001 01\n"),
@@ -233,6 +268,12 @@ fn full_roster() -> (String, String) {
     (sheet, format!("8E000000420F\n{plan}{plan}"))
 }
 
+/// Jobs of 1/64 and 2/128 by turns, from the highest id down; one more is refused.
+fn full_tie() -> String {
+    let job = |id: u32| format!("03{id:04X}{:04X}{:04X}\n", 1 + id % 2, 64 * (1 + id % 2));
+    format!("01010400010001\n{}03010000010040\n", (1..=64).rev().map(job).collect::<String>())
+}
+
 /// The second planner and the product's programs print what is known.
 pub fn run_all(programs: &Programs, tally: &mut Tally) {
     let (sheet, output) = full_roster();
@@ -264,7 +305,22 @@ pub fn run_all(programs: &Programs, tally: &mut Tally) {
         let given = run(&programs.library, sheet.as_bytes());
         tally.check(&format!("trial of the library call, program: {name}"), given == Ok(due.into_bytes()));
     }
+    taken_in_turn(programs, tally);
     imports(tally);
+}
+
+fn taken_in_turn(programs: &Programs, tally: &mut Tally) {
+    let sheet = full_tie();
+    let ids: Vec<u32> = (1..=64).collect();
+    let more = [("64 jobs of equal work", sheet.as_str(), ids.as_slice())];
+    for (name, sheet, ids) in TURNS.iter().copied().chain(more) {
+        // No job has the id 0, which stands after the last.
+        let due = format!("{}0\n", ids.iter().map(|id| format!("{id} ")).collect::<String>());
+        let given = turns::printed(sheet.as_bytes(), None, &mut Facts::new());
+        tally.check(&format!("trial of the order of jobs, second planner: {name}"), given == due.as_bytes());
+        let given = run(&programs.turns, sheet.as_bytes());
+        tally.check(&format!("trial of the order of jobs, program: {name}"), given == Ok(due.into_bytes()));
+    }
 }
 
 fn imports(tally: &mut Tally) {

@@ -1,5 +1,5 @@
-//! Wrong planners. Each leaves document 01, request 2026-01 or request 2026-02 in one point, and a comparison worth its name finds
-//! every one of them.
+//! Wrong planners. Each leaves document 01 or one of the requests 2026-01 to 2026-03 in one point, and a comparison worth its name
+//! finds every one of them.
 
 use crate::facts::Due;
 
@@ -96,6 +96,31 @@ wrong_planners! {
     CycleAccepted Library "16 not looked at",
     EntriesAfterLast Library "entries after the m-th not 0",
     RefusedEntriesSet Library "entries of a refused job not 0",
+    TurnsHigherIdFirst Turns "taking the higher id first among equals",
+    TurnsByCost Turns "taking jobs by cost alone",
+    TurnsByPeriod Turns "taking jobs by period alone, the shorter first",
+    TurnsRising Turns "taking jobs by rising work",
+    TurnsById Turns "taking jobs by id alone",
+    TurnsByAdmission Turns "taking jobs in the order of admission among equals",
+    TurnsTieOnce Turns "taking one job of a tie",
+    TurnsTieEnds Turns "taking only the lowest and the highest id of a tie",
+    TurnsTieRepeated Turns "taking the first job of a tie again for each of its jobs",
+    TurnsLastLeftOut Turns "leaving out the last job",
+    TurnsFirstAgain Turns "taking the first job again at the end",
+    TurnsLastAgain Turns "taking the last job again at the end",
+    TurnsByProduct Turns "taking jobs by C x T",
+    TurnsByPercent Turns "taking jobs by C over T in whole per cent",
+    TurnsBy65536ths Turns "taking jobs by C over T in 65,536ths, rounded down",
+    TurnsByWholes Turns "taking jobs by C over T rounded down",
+    TurnsWorkCut Turns "taking jobs by works cut to 16 bits",
+    TurnsOtherCycle Turns "taking jobs by works in the longest period",
+    TurnsLowerCostFirst Turns "taking the lower cost first among equals",
+    TurnsHigherCostFirst Turns "taking the higher cost first among equals",
+    TurnsSignedIds Turns "taking ids from 32,768 on first among equals",
+    TurnsLowByteFirst Turns "taking the lower low byte of the id first among equals",
+    TurnsRisingIds Turns "leaving out the ids below that of the job taken before",
+    TurnsFullLeftOut Turns "leaving out a job whose cost is its period",
+    TurnsSixtyThree Turns "taking 63 jobs at most",
     ListBeforeProcessors Import "18 before 1",
     SpeedsBeforeGaps Import "2 before 19",
     CountAfterGaps Import "19 before 18 for a count beyond 32",

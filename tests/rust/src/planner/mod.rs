@@ -1,4 +1,4 @@
-//! The second planner: document 01 and requests 2026-01 and 2026-02 written down once more, for clarity and not for speed. It
+//! The second planner: document 01 and requests 2026-01 to 2026-03 written down once more, for clarity and not for speed. It
 //! shares nothing with the product.
 
 pub mod astray;
@@ -12,6 +12,9 @@ pub mod import;
 pub mod import_notes;
 pub mod library;
 pub mod machine;
+pub mod orders;
 pub mod power;
 pub mod refusal;
 pub mod slack;
+pub mod turns;
+pub mod turns_notes;
