@@ -10,16 +10,13 @@ use planner::Roster;
 use selection::next_job;
 use selection::none_taken;
 
-// Prints a number and the byte after it; whether both were written.
-fn put(n: u64, after: u8) -> bool {
-    if !io::print_decimal(STDOUT_FILENO, n) {
-        return false;
-    }
-    let byte = [after];
-    io::write_all(STDOUT_FILENO, &byte)
+// Prints an id and what stands after it.
+fn print(id: u16, after: &[u8]) {
+    io::print_decimal(STDOUT_FILENO, id as u64);
+    io::write_all(STDOUT_FILENO, after);
 }
 
-// Job after job, and one turn more; to the first failed write.
+// Job after job, and one turn more.
 fn turns(roster: Roster) {
     let jobs = roster.jobs;
     let held = roster.held as usize;
@@ -30,12 +27,10 @@ fn turns(roster: Roster) {
     for k in 0..held {
         let next = next_job(jobs, held, job);
         job = next;
-        if !put(job.id as u64, b' ') {
-            return;
-        }
+        print(job.id, b" ");
     }
     let none = next_job(jobs, held, job);
-    put(none.id as u64, b'\n');
+    print(none.id, b"\n");
 }
 
 fn main() {

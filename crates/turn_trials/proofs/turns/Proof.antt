@@ -5,10 +5,10 @@ use Rattle.turn_trials.proofs.turns.Statement.{statement}
 use Rattle.turn_trials.proofs.turns.Tie as tie
 
 abbrev Inv-loop : tie.InvT-loop
-Inv-loop jobs held job₀ k₀ job k = k ≤ held
+Inv-loop jobs held job₀ k₀ t8 t9 job k = k ≤ held
 
 abbrev μ-loop : tie.MeasureT-loop
-μ-loop jobs held job₀ k₀ job k = held - k
+μ-loop jobs held job₀ k₀ t8 t9 job k = held - k
 
 cast-held : tie.Need-cast-held Inv-loop μ-loop
 cast-held c = search needs
@@ -25,14 +25,11 @@ loop-holds c = search needs
 next-job-requires : tie.Need-next-job-requires Inv-loop μ-loop
 next-job-requires c κs = search needs
 
-cast-put : tie.Need-cast-put Inv-loop μ-loop
-cast-put c = search needs
+slice-aggregate-print : tie.Need-slice-aggregate-print Inv-loop μ-loop
+slice-aggregate-print c = search needs
 
-put-requires : tie.Need-put-requires Inv-loop μ-loop
-put-requires c κs = search needs
-
-returns-2 : tie.Need-returns-2 Inv-loop μ-loop
-returns-2 c = search needs
+print-requires : tie.Need-print-requires Inv-loop μ-loop
+print-requires c κs = search needs
 
 add-k : tie.Need-add-k Inv-loop μ-loop
 add-k c = search needs
@@ -46,14 +43,14 @@ loop-again c = search needs
 next-job-requires-2 : tie.Need-next-job-requires-2 Inv-loop μ-loop
 next-job-requires-2 c κs = search needs
 
-cast-put-2 : tie.Need-cast-put-2 Inv-loop μ-loop
-cast-put-2 c = search needs
+slice-aggregate-print-2 : tie.Need-slice-aggregate-print-2 Inv-loop μ-loop
+slice-aggregate-print-2 c = search needs
 
-put-requires-2 : tie.Need-put-requires-2 Inv-loop μ-loop
-put-requires-2 c κs = search needs
+print-requires-2 : tie.Need-print-requires-2 Inv-loop μ-loop
+print-requires-2 c κs = search needs
 
-returns-3 : tie.Need-returns-3 Inv-loop μ-loop
-returns-3 c = search needs
+returns-2 : tie.Need-returns-2 Inv-loop μ-loop
+returns-2 c = search needs
 
 pub turns-spec : {M : Type 1} → statement M
 turns-spec =
@@ -66,13 +63,12 @@ turns-spec =
     none-taken-requires
     loop-holds
     next-job-requires
-    cast-put
-    put-requires
-    returns-2
+    slice-aggregate-print
+    print-requires
     add-k
     loop-less
     loop-again
     next-job-requires-2
-    cast-put-2
-    put-requires-2
-    returns-3)
+    slice-aggregate-print-2
+    print-requires-2
+    returns-2)
