@@ -8,7 +8,7 @@
  * For every call:
  *   - The page must not overlap the sheet or list. A pointer may be NULL where its length is 0.
  *   - It ends on every input. It uses no heap and keeps no state, so several threads may call at once.
- *   - It takes at most PLANNER_STACK bytes of stack: 6.7 KiB were measured, and less than 3 KiB more where the loader has yet to find memcpy.
+ *   - It takes at most PLANNER_STACK bytes of stack: 11.3 KiB were measured, and less than 3 KiB more where the loader has yet to find memcpy.
  *
  * To link: cc program.c libhost.a
  */
@@ -29,7 +29,7 @@ extern "C" {
 #define PLANNER_PROCESSORS 1      /* the number of processors is not 1 to 32 */
 #define PLANNER_SPEEDS 2          /* the levels, lowest speed, step or top speed are beyond their range */
 #define PLANNER_POWER_TABLE 3     /* a power table without one value a level, with a value too large, a fall, or a shrinking rise */
-#define PLANNER_JOB_NUMBERS 4     /* an id, cost or period is not 1 to 65,535 */
+#define PLANNER_JOB_NUMBERS 4     /* an id, cost or period is not 1 to 65,535, or a deadline not 1 to its period */
 #define PLANNER_MALFORMED 5       /* a malformed line, or a sheet too long */
 #define PLANNER_NO_ROOM 6         /* the page from the place on is shorter than the frame and its 0A */
 #define PLANNER_DAMAGED 7         /* a roster that breaks a rule; no sheet makes one */
@@ -42,7 +42,7 @@ extern "C" {
 #define PLANNER_ID_HELD 13              /* the id is on the roster already */
 #define PLANNER_ID_NOT_HELD 14          /* the id to retire is not on the roster */
 #define PLANNER_PLACES_FULL 15          /* 64 jobs are held */
-#define PLANNER_HYPERPERIOD_TOO_LONG 16 /* the least common multiple of the periods would exceed 16,777,216 */
+#define PLANNER_HYPERPERIOD_TOO_LONG 16 /* the least common multiple of the deadlines would exceed 16,777,216 */
 #define PLANNER_NO_PLAN 17              /* no plan passes with the new job */
 
 /*
@@ -57,12 +57,13 @@ extern "C" {
 #define PLANNER_STACK 16384
 
 /*
- * Plans for the jobs that a sheet leaves on the roster. A sheet longer than PLANNER_LONGEST_SHEET gets PLANNER_MALFORMED. Otherwise
- * the lines are read in order from an empty roster with no machine; well-formed plan-wanted and slack-wanted lines (05, 07) are
- * passed over, and the first refused line ends the call with its number. Then PLANNER_NO_MACHINE where no machine is open at the end,
- * then PLANNER_NO_ROOM. Otherwise it returns PLANNER_DONE, and the plan frame (81) stands in the page from the place on; no other
- * byte of the page changes. On any other reply no byte of the page changes. The frame has 25 bytes and two for each processor, the
- * last of them 0A.
+ * Plans for the jobs that a sheet leaves on the roster. An admit line (03) brings a job that is due when its period ends, an admit line
+ * with a deadline (06) one that may be due before. A sheet longer than PLANNER_LONGEST_SHEET gets PLANNER_MALFORMED. Otherwise the
+ * lines are read in order from an empty roster with no machine; well-formed plan-wanted and slack-wanted lines (05, 07) are passed
+ * over, and the first refused line ends the call with its number. Then PLANNER_NO_MACHINE where no machine is open at the end, then
+ * PLANNER_NO_ROOM. Otherwise it returns PLANNER_DONE, and the plan frame (81) stands in the page from the place on; no other byte of
+ * the page changes. On any other reply no byte of the page changes. The frame has 25 bytes and two for each processor, the last of
+ * them 0A.
  */
 uint32_t planner_plan_sheet(const uint8_t *sheet, size_t sheet_length, uint8_t *page, size_t page_length, size_t place);
 

@@ -166,6 +166,34 @@ static const struct trial trials[] = {
     /* Without 640/960 the cycle is 9,216 and the second processor needs no raise: 27 + 8 + 8. */
     {"a job retired", "01030300020001\n03001002400480\n030020028003C0\n03000403000400\n040020\n", 0, 0,
      "8102000024000000002B0001010000\n"},
+    /* Kind 06: id, cost, period and deadline. With the periods for deadlines the jobs are those of kind 03. */
+    {"deadlines at the ends of periods", QUARTERS "060001000A000A000A\n0600020009000A000A\n0600030006000A000A\n0600040005000A000A\n"
+     "0600050001000A000A\n", 0, 0, FIVE_JOBS_PLAN},
+    {"jobs by either kind", QUARTERS "030001000A000A\n0600020009000A000A\n0300030006000A\n0600040005000A000A\n0300050001000A\n", 0, 0,
+     FIVE_JOBS_PLAN},
+    /* Periods of 1,000 450 200 100 and 10, by which the last would be the largest: the deadlines are 10 as before. */
+    {"other periods, the same deadlines", QUARTERS "060001000A03E8000A\n060002000901C2000A\n060003000600C8000A\n06000400050064000A\n"
+     "0300050001000A\n", 0, 0, FIVE_JOBS_PLAN},
+    {"a job with a deadline retired", QUARTERS FIVE_JOBS "0600060004000A0005\n040006\n", 0, 0, FIVE_JOBS_PLAN},
+    {"small letters in a job with a deadline", QUARTERS "060001000a000A000a\n0300020009000A\n0600030006000a000A\n0300040005000A\n"
+     "0300050001000A\n", 0, 0, FIVE_JOBS_PLAN},
+    /* 4 in 10 ticks is work 4 of 10, level 1, power 8 + 3; within 5 it is 4 of 5, and within 4 it is 4 of 4, both level 3. */
+    {"4 in 10 ticks", QUARTERS "0600010004000A000A\n", 0, 0, "81010000000A0000000B000101000000\n"},
+    {"4 in 10 ticks, within 5", QUARTERS "0600010004000A0005\n", 0, 0, "81010000000500000043000303000000\n"},
+    {"4 in 10 ticks, within 4", QUARTERS "0600010004000A0004\n", 0, 0, "81010000000400000043000303000000\n"},
+    /* Works 10 9 8 6 5 1 of 40: test 3 needs 108 of 10 x 11, test 4 needs 156 of 10 x 16, so all are at the top: 4 x 64. */
+    {"the five jobs and 4 within 5", QUARTERS FIVE_JOBS "0600060004000A0005\n", 0, 0, "81060000000A00000100000C03030303\n"},
+    /* Works 8 and 2 of 8, the job that has less in its period first: 32 of 8 x 4, 40 of 8 x 5. */
+    {"the earlier deadline weighs more", QUARTERS "060001000200080008\n060002000100080001\n", 0, 0,
+     "81020000000800000043000303000000\n"},
+    /* Speeds 2 3 4; 288 within 576, 576 within 768, 160 within 640: cycle 11,520, works 8640 5760 2880, levels 1 0 0, 27 + 8 + 8. */
+    {"three deadlines", "01030300020001\n060010012004800240\n060004024004000300\n06002000A003C00280\n", 0, 0,
+     "810300002D000000002B0001010000\n"},
+    /* Without the second the cycle is 5,760, works 2880 1440: 4 x 2,880 is 5,760 x 2. */
+    {"one of three deadlines retired", "01030300020001\n060010012004800240\n060004024004000300\n06002000A003C00280\n040004\n", 0, 0,
+     "810200001680000000180000000000\n"},
+    /* 65,535 within 65,535, and 1 within 1 in as many: work 65,535 each. */
+    {"the largest numbers", QUARTERS "06FFFFFFFFFFFFFFFF\n0600010001FFFF0001\n", 0, 0, "81020000FFFF00000082000603030000\n"},
     /* 26/100 needs a little more than the lowest speed: level 1, power 8. */
     {"one processor", "01010400010001\n030001001A0064\n", 0, 0, "81010000006400000008000101\n"},
     /* 32 levels from 8 to 256 in eights: 32 times the cube of 8. */
@@ -189,17 +217,35 @@ static const struct trial trials[] = {
     {"cost 0", QUARTERS "0300010000000A\n", PLANNER_JOB_NUMBERS, 2, "8E0000000204\n"},
     {"period 0", QUARTERS "030001000A0000\n", PLANNER_JOB_NUMBERS, 2, "8E0000000204\n"},
     {"id 0 to retire", QUARTERS "040000\n", PLANNER_JOB_NUMBERS, 2, "8E0000000204\n"},
+    {"deadline 0", QUARTERS "060001000A000A0000\n", PLANNER_JOB_NUMBERS, 2, "8E0000000204\n"},
+    {"deadline 11, period 10", QUARTERS "0600010001000A000A\n0600020001000A000B\n", PLANNER_JOB_NUMBERS, 3, "8E0000000304\n"},
+    {"deadline 256, period 255", QUARTERS "060001000100FF0100\n", PLANNER_JOB_NUMBERS, 2, "8E0000000204\n"},
+    {"deadline 65,535, period 65,534", QUARTERS "0600010001FFFEFFFF\n", PLANNER_JOB_NUMBERS, 2, "8E0000000204\n"},
+    {"id 0, with a deadline", QUARTERS "060000000A000A000A\n", PLANNER_JOB_NUMBERS, 2, "8E0000000204\n"},
+    {"cost 0, with a deadline", QUARTERS "0600010000000A000A\n", PLANNER_JOB_NUMBERS, 2, "8E0000000204\n"},
+    {"period 0, with a deadline", QUARTERS "060001000A00000001\n", PLANNER_JOB_NUMBERS, 2, "8E0000000204\n"},
+    {"period and deadline 0", QUARTERS "060001000A00000000\n", PLANNER_JOB_NUMBERS, 2, "8E0000000204\n"},
+    {"deadline above period, id held", QUARTERS FIVE_JOBS "0600030001000A000B\n", PLANNER_JOB_NUMBERS, 7, "8E0000000704\n"},
 
     {"an empty line", "\n", PLANNER_MALFORMED, 1, "8E0000000105\n"},
     {"an empty line after the jobs", QUARTERS FIVE_JOBS "\n", PLANNER_MALFORMED, 7, "8E0000000705\n"},
     {"a wrong digit", QUARTERS "0G\n", PLANNER_MALFORMED, 2, "8E0000000205\n"},
     {"an odd number of digits", QUARTERS "050\n", PLANNER_MALFORMED, 2, "8E0000000205\n"},
-    {"an unknown kind", QUARTERS "06\n", PLANNER_MALFORMED, 2, "8E0000000205\n"},
+    {"an unknown kind", QUARTERS "00\n", PLANNER_MALFORMED, 2, "8E0000000205\n"},
     {"an unknown kind after slack wanted", QUARTERS "07\n08\n", PLANNER_MALFORMED, 3, "8E0000000305\n"},
     {"an output frame read", QUARTERS NO_JOBS_PLAN, PLANNER_MALFORMED, 2, "8E0000000205\n"},
     {"a slack frame read", QUARTERS "83000000000000000002\n", PLANNER_MALFORMED, 2, "8E0000000205\n"},
     {"a machine, too short", "010404000100\n", PLANNER_MALFORMED, 1, "8E0000000105\n"},
     {"a job, too long", QUARTERS "030001000A000A00\n", PLANNER_MALFORMED, 2, "8E0000000205\n"},
+    {"a job, as long as with a deadline", QUARTERS "030001000A000A000A\n", PLANNER_MALFORMED, 2, "8E0000000205\n"},
+    {"a job with a deadline, its kind alone", QUARTERS "06\n", PLANNER_MALFORMED, 2, "8E0000000205\n"},
+    {"a job with a deadline, without it", QUARTERS "060001000A000A\n", PLANNER_MALFORMED, 2, "8E0000000205\n"},
+    {"a job with a deadline, too short", QUARTERS "060001000A000A00\n", PLANNER_MALFORMED, 2, "8E0000000205\n"},
+    {"a job with a deadline, too long", QUARTERS "060001000A000A000A00\n", PLANNER_MALFORMED, 2, "8E0000000205\n"},
+    {"a job with a deadline, an odd number of digits", QUARTERS "060001000A000A000\n", PLANNER_MALFORMED, 2, "8E0000000205\n"},
+    {"a job with a deadline, a wrong digit", QUARTERS "060001000A000A000G\n", PLANNER_MALFORMED, 2, "8E0000000205\n"},
+    {"a job with a deadline, unclosed", QUARTERS FIVE_JOBS "0600060001000A0005", PLANNER_MALFORMED, 7, "8E0000000705\n"},
+    {"a job with a deadline, too short, before the machine", "05\n060000\n" QUARTERS, PLANNER_MALFORMED, 2, "8E0000000205\n"},
     {"a job to retire, too short", QUARTERS "0400\n", PLANNER_MALFORMED, 2, "8E0000000205\n"},
     {"a table without values", QUARTERS "02\n", PLANNER_MALFORMED, 2, "8E0000000205\n"},
     {"a plan wanted, too long", QUARTERS "0500\n", PLANNER_MALFORMED, 2, "8E0000000205\n"},
@@ -216,17 +262,35 @@ static const struct trial trials[] = {
 
     {"a table before the machine", "0200000001\n", PLANNER_NO_MACHINE, 1, "8E000000010B\n"},
     {"a job before the machine", "030001000A000A\n" QUARTERS, PLANNER_NO_MACHINE, 1, "8E000000010B\n"},
+    {"a job with a deadline before the machine", "060001000A000A000A\n" QUARTERS, PLANNER_NO_MACHINE, 1, "8E000000010B\n"},
+    {"a deadline above its period before the machine", "07\n060001000A000A000B\n", PLANNER_NO_MACHINE, 2, "8E000000020B\n"},
     {"a job to retire before the machine", "05\n05\n040001\n", PLANNER_NO_MACHINE, 3, "8E000000030B\n"},
     {"a job before the machine, after slack wanted", "07\n05\n07\n030001000A000A\n", PLANNER_NO_MACHINE, 4, "8E000000040B\n"},
     {"a second machine", QUARTERS QUARTERS, PLANNER_MACHINE_OPEN, 2, "8E000000020C\n"},
     {"an id twice", QUARTERS FIVE_JOBS "03000300010001\n", PLANNER_ID_HELD, 7, "8E000000070D\n"},
+    {"an id twice, with a deadline", QUARTERS FIVE_JOBS "060003000100010001\n", PLANNER_ID_HELD, 7, "8E000000070D\n"},
+    {"an id twice, the first with a deadline", QUARTERS "060003000100640005\n03000300010064\n", PLANNER_ID_HELD, 3, "8E000000030D\n"},
+    {"an id twice, another deadline", QUARTERS "060003000100640005\n060003000100640004\n", PLANNER_ID_HELD, 3, "8E000000030D\n"},
     {"an id to retire that is not there", QUARTERS FIVE_JOBS "040006\n", PLANNER_ID_NOT_HELD, 7, "8E000000070E\n"},
     /* The longest cycle of two neighbours that is allowed: 16,773,120. */
     {"periods 4095 and 4096", QUARTERS "03000100010FFF\n03000200011000\n", 0, 0, "810200FFF00000000004000000000000\n"},
     {"periods 4096 and 4097", QUARTERS "03000100011000\n03000200011001\n", PLANNER_HYPERPERIOD_TOO_LONG, 3, "8E0000000310\n"},
     {"periods 4096 and 4097, cost 4098", QUARTERS "03000100011000\n03000210021001\n", PLANNER_HYPERPERIOD_TOO_LONG, 3,
      "8E0000000310\n"},
+    /* It is the deadlines that count. */
+    {"periods 4096 and 4097, deadlines 4096 and 2048", QUARTERS "060001000110001000\n060002000110010800\n", 0, 0,
+     "81020000100000000004000000000000\n"},
+    {"deadlines 4095 and 4097", QUARTERS "0600010001FFFF0FFF\n0600020001FFFF1001\n", 0, 0, "810200FFFFFF00000004000000000000\n"},
+    {"deadlines 4096 and 4097", QUARTERS "060001000110011000\n060002000110011001\n", PLANNER_HYPERPERIOD_TOO_LONG, 3,
+     "8E0000000310\n"},
+    {"deadlines 4096 and 4097, cost 4098", QUARTERS "05\n060001000110011000\n060002100210021001\n", PLANNER_HYPERPERIOD_TOO_LONG, 4,
+     "8E0000000410\n"},
+    /* 16,777,217. */
+    {"deadlines 257 and 65281", QUARTERS "0600010001FFFF0101\n0600020001FFFFFF01\n", PLANNER_HYPERPERIOD_TOO_LONG, 3, "8E0000000310\n"},
     {"cost above period", QUARTERS "030001000B000A\n", PLANNER_NO_PLAN, 2, "8E0000000211\n"},
+    {"cost above deadline", QUARTERS "0600010005000A0004\n", PLANNER_NO_PLAN, 2, "8E0000000211\n"},
+    /* Cycle 20, works 20 20 18 12 10 2: 82 of 80. */
+    {"the five jobs and 4 within 4", "05\n" QUARTERS "07\n" FIVE_JOBS "0600060004000A0004\n05\n", PLANNER_NO_PLAN, 9, "8E0000000911\n"},
     {"the example, with slack wanted", "07\n" QUARTERS "07\n" FIVE_JOBS "05\n07\n030006000B000A\n07\n", PLANNER_NO_PLAN, 11,
      "8E0000000B11\n"},
     {"more work than the processors have", "01010400010001\n03000100010002\n03000200010002\n03000300010002\n", PLANNER_NO_PLAN, 4,
@@ -254,23 +318,26 @@ static void trials_of_sheets(void)
     }
 }
 
-/* Jobs of 1/64 on one processor: 64 of them are exactly its work at the top, level 3. */
-static void a_full_roster(void)
+/* Jobs of 1/64 on one processor: 64 of them are exactly its work at the top, level 3. From this id on they are due in 64 of 256 ticks. */
+static void a_full_roster(unsigned deadlines_from)
 {
-    static char sheet[70 * 15 + 1];
+    static char sheet[70 * 19 + 1];
     const char *const filed = "81400000004000000040000303\n";
     size_t length = (size_t)snprintf(sheet, sizeof sheet, "01010400010001\n");
-    for (unsigned id = 1; id <= 64; id++)
-        length += (size_t)snprintf(sheet + length, sizeof sheet - length, "03%04X00010040\n", id);
+    for (unsigned id = 1; id <= 64; id++) {
+        const char *const job = id < deadlines_from ? "03%04X00010040\n" : "06%04X000101000040\n";
+        length += (size_t)snprintf(sheet + length, sizeof sheet - length, job, id);
+    }
     try_sheet("64 jobs", sheet, length, PLANNER_DONE, 0, filed);
 
-    const char *const more = "03004100010040\n";
-    memcpy(sheet + length, more, 15);
-    try_sheet("65 jobs", sheet, length + 15, PLANNER_PLACES_FULL, 66, "8E000000420F\n");
+    const char *const more = deadlines_from > 65 ? "03004100010040\n" : "060041000101000040\n";
+    const size_t line = strlen(more);
+    memcpy(sheet + length, more, line);
+    try_sheet("65 jobs", sheet, length + line, PLANNER_PLACES_FULL, 66, "8E000000420F\n");
 
     memcpy(sheet + length, "040007\n", 7);
-    memcpy(sheet + length + 7, more, 15);
-    try_sheet("64 jobs, one for another", sheet, length + 22, PLANNER_DONE, 0, filed);
+    memcpy(sheet + length + 7, more, line);
+    try_sheet("64 jobs, one for another", sheet, length + 7 + line, PLANNER_DONE, 0, filed);
 }
 
 static void long_sheets(void)
@@ -871,7 +938,9 @@ int main(void)
     input_room = fenced_room(PLANNER_LONGEST_SHEET + 1);
     page_room = fenced_room(LONGEST_PAGE);
     trials_of_sheets();
-    a_full_roster();
+    a_full_roster(66);
+    a_full_roster(1);
+    a_full_roster(40);
     long_sheets();
     pages();
     refusals();

@@ -55,11 +55,13 @@ int main(void) {
     } calls[] = {{"planner_plan_sheet", plan_sheet}, {"planner_refused_line", refused_line}, {"planner_write_refusal", write_refusal},
                  {"planner_import", import}};
     unsigned passed = 0, failed = 0;
-    /* Every kind of frame: a machine of 32 processors and 32 levels, its table, 64 jobs, one of them retired, and a plan of many raises. */
+    /* Every kind of frame: a machine of 32 processors and 32 levels, its table, 64 jobs, every second one with a deadline in the middle of its
+     * period, one of them retired, and a plan of many raises. */
     char *line = (char *)sheet;
     line += sprintf(line, "01202000080008\n02");
     for (unsigned level = 0; level < 32; level++) line += sprintf(line, "%08X", level * level);
-    for (unsigned id = 1; id <= 64; id++) line += sprintf(line, "%s03%04X%04X0040\n", id == 1 ? "\n" : "", id, 1 + id % 30);
+    line += sprintf(line, "\n");
+    for (unsigned id = 1; id <= 64; id++) line += sprintf(line, id % 2 ? "03%04X%04X0040\n" : "06%04X%04X00800040\n", id, 1 + id % 30);
     line += sprintf(line, "040003\n");
     sheet_length = (size_t)(line - (char *)sheet);
     /* The longest list, falling, so that every number has to be moved: speeds 41 to 10 of 104,755,299 each. */

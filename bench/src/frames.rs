@@ -5,7 +5,8 @@ use crate::load::Job;
 use std::io::BufRead;
 use std::iter;
 
-const SHORT_LINE: usize = 16;
+/// Frame 06 with its 0A.
+const SHORT_LINE: usize = 19;
 
 /// The numbers of a machine frame, not yet judged.
 #[derive(Clone, Copy)]
@@ -66,6 +67,7 @@ pub fn read(line: &[u8]) -> Option<Frame> {
         b'3' => admit(digits),
         b'4' => Some(Frame::Retire(number::<4>(digits.try_into().ok()?)? as u16)),
         b'5' => digits.is_empty().then_some(Frame::PlanWanted),
+        b'6' => admit_with_deadline(digits),
         b'7' => digits.is_empty().then_some(Frame::SlackWanted),
         _ => None,
     }
@@ -79,7 +81,14 @@ fn machine(digits: &[u8]) -> Option<Frame> {
 
 fn admit(digits: &[u8]) -> Option<Frame> {
     let all = number::<12>(digits.try_into().ok()?)?;
-    Some(Frame::Admit(Job { id: (all >> 32) as u16, cost: (all >> 16) as u16, period: all as u16 }))
+    let (id, cost, period) = ((all >> 32) as u16, (all >> 16) as u16, all as u16);
+    Some(Frame::Admit(Job { id, cost, period, deadline: period }))
+}
+
+fn admit_with_deadline(digits: &[u8]) -> Option<Frame> {
+    let all = number::<16>(digits.try_into().ok()?)?;
+    let (id, cost) = ((all >> 48) as u16, (all >> 32) as u16);
+    Some(Frame::Admit(Job { id, cost, period: (all >> 16) as u16, deadline: all as u16 }))
 }
 
 fn power(digits: &[u8]) -> Option<Frame> {

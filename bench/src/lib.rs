@@ -1,8 +1,9 @@
 //! The yardstick: a planner written for speed in the straightforward way of Rust. The product's times are measured
 //! against it.
 //!
-//! It does what the specification says of sheets, as the desk program and as the host's call, and what request 2026-02
-//! says of frequency lists. It does not look for refusal 7: its roster is its own, and nobody else can damage it.
+//! It does what the specification says of sheets, with the frames of requests 2026-01 and 2026-04, as the desk program
+//! and as the host's call, and what request 2026-02 says of frequency lists. It does not look for refusal 7: its roster
+//! is its own, and nobody else can damage it.
 
 #![forbid(unsafe_code)]
 

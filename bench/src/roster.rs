@@ -70,7 +70,8 @@ impl Open {
     }
 
     fn admit(&mut self, job: Job) -> Result<(), Refusal> {
-        if job.id == 0 || job.cost == 0 || job.period == 0 {
+        // No deadline is in a period of 0, so that needs no look of its own.
+        if job.id == 0 || job.cost == 0 || !(1..=job.period).contains(&job.deadline) {
             return Err(Refusal::JobNumbers);
         }
         let Err(place) = self.find(job.id) else { return Err(Refusal::IdHeld) };
@@ -80,10 +81,10 @@ impl Open {
         let held = Load::of(&self.jobs);
         let load = held.and_then(|held| held.with(&job)).ok_or(Refusal::HyperperiodTooLong)?;
         // Some plan passes exactly where the one with every processor at the top does. There test k asks that the k
-        // largest works be at most k x H, which no cost above its period grants, and the last test that all works be at
-        // most m x H.
+        // largest works be at most k x H, which no cost above its deadline grants, and the last test that all works be
+        // at most m x H.
         let capacity = self.machine.processors as u64 * u64::from(load.hyperperiod);
-        if job.cost > job.period || load.work > capacity {
+        if job.cost > job.deadline || load.work > capacity {
             return Err(Refusal::NoPlan);
         }
         self.jobs.insert(place, job);

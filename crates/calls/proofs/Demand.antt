@@ -42,7 +42,7 @@ use Rattle.calls.specs.Calls.{
   modelAfter,
   rosterAfter,
 }
-use Rattle.calls.specs.Claims.{AskRule, WantsPlan, WantsSlack, Offers, FiledNext, SlackNext, Demand3}
+use Rattle.calls.specs.Claims.{AskRule, SameAtPeriod, WantsPlan, WantsSlack, Offers, FiledNext, SlackNext, Demand3}
 use Rattle.calls.specs.Claims as claims
 use Rattle.calls.proofs.Following.{never-7, list-replies, list-end, list-kept}
 
@@ -62,6 +62,7 @@ module _ (line : List ℕ) where
         asked-by (says 2 values) e
         ∙ ap (λ (l : List ℕ). change (planner.ReplaceTable l)) (take-append-seam values (replicate (32 - length values) 0));
     admit = λ id cost period e. asked-by (says 3 (id ∷ cost ∷ period ∷ [])) e;
+    admit-due = λ id cost period deadline e. asked-by (says 6 (id ∷ cost ∷ period ∷ deadline ∷ [])) e;
     retire = λ id e. asked-by (says 4 (id ∷ [])) e;
     plan-wanted = λ e. asked-by (says 5 []) e;
     slack-wanted = λ e. asked-by (says 7 []) e;
@@ -75,6 +76,11 @@ line-gets : (r : Roster) (line page : List ℕ) (place : ℕ) (ask : Asked) → 
 unfolding onRoster lineReply
 line-gets r line page place ask e =
     ap (λ (a : Asked). done (replyAs r a page place .number) (replyAs r a page place .page) (replyAs r a page place .roster)) e
+
+pub same-at-period : SameAtPeriod
+same-at-period line due id cost period e f r page place =
+    line-gets r due page place (change (planner.Admit id cost period period)) (ask-rule due .admit-due id cost period period f)
+    ∙ sym (line-gets r line page place (change (planner.Admit id cost period period)) (ask-rule line .admit id cost period e))
 
 plan-wanted : (r : Roster) (call : Call) (page : List ℕ) (place : ℕ) → WantsPlan call page place → onRoster r call ≡ wrote (planReply r page place) r
 unfolding onRoster replyAs
@@ -125,16 +131,20 @@ module _ (M : Machine) (table : List ℕ) (jobs : List Job) (kept : Kept (Opened
   unfolding onRoster lineReply replyAs
   offered-number call new (claims.with-numbers n) = refl
   offered-number call new (claims.as-line line page place n e) =
-      ap (λ (a : Asked). replyAs roster a page place .number) (ask-rule line .admit (new .id) (new .cost) (new .period) e)
+      ap (λ (a : Asked). replyAs roster a page place .number) (ask-rule line .admit-due (new .id) (new .cost) (new .period) (new .deadline) e)
+  offered-number call new (claims.at-period line page place n same e) =
+      ap (λ (a : Asked). replyAs roster a page place .number)
+      (ask-rule line .admit (new .id) (new .cost) (new .period) e
+      ∙ ap (λ (d : ℕ). change (planner.Admit (new .id) (new .cost) (new .period) d)) (sym same))
 
   pub turned-down : (new : Job) → Offered jobs new → (call : Call) → Offers call new → TurnedDown (onRoster roster call .reply .number) M jobs new
   turned-down new offered call offers =
       subst (λ (n : ℕ). TurnedDown n M jobs new) (sym (offered-number call new offers)) (planner .turns-down M table jobs kept new offered)
 
 -- What the slack call with numbers gives is what its contract says.
-gives : (id cost period : ℕ) (r : Roster) → onRoster r (SlackWith id cost period) ≡ gave (slackTo r id cost period) r
+gives : (id cost period deadline : ℕ) (r : Roster) → onRoster r (SlackWith id cost period deadline) ≡ gave (slackTo r id cost period deadline) r
 unfolding onRoster
-gives id cost period r = refl
+gives id cost period deadline r = refl
 
 -- ---- How a list begins
 
@@ -202,7 +212,7 @@ module _ (begins : Beginning) (calls : List Call) where
     slack-next = λ M table jobs e.
         subst (λ (r : Roster). SlackNext r M table jobs) (at-end M table jobs e) (slack-next M table jobs (open-kept M table jobs e));
     slack-with = slack-calls .with-rule book book-kept;
-    given = λ id cost period. gives id cost period left ∙ ap (λ (a : SlackAnswer). gave a left)
-        (ap (λ (r : Roster). slackTo r id cost period) ends ∙ slack-calls .with-rule book book-kept id cost period .follows);
+    given = λ id cost period deadline. gives id cost period deadline left ∙ ap (λ (a : SlackAnswer). gave a left)
+        (ap (λ (r : Roster). slackTo r id cost period deadline) ends ∙ slack-calls .with-rule book book-kept id cost period deadline .follows);
     imports = λ processors list e. (importing .order-rule processors list, importing .follow-rule processors list);
   }

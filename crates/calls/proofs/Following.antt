@@ -69,9 +69,9 @@ module _ (model : Model) (kept : Kept model) where
   call-follows (Change call) = changes call []
   call-follows (Plan page place) = plans page place
   call-follows (Slack page place) = slacks page place
-  call-follows (SlackWith id cost period) =
+  call-follows (SlackWith id cost period deadline) =
       record {
-        reply = ap (λ (given : SlackAnswer). gave given model .reply) (slack-calls .with-rule model kept id cost period .follows);
+        reply = ap (λ (given : SlackAnswer). gave given model .reply) (slack-calls .with-rule model kept id cost period deadline .follows);
         next = refl;
         kept = kept;
       }
@@ -91,7 +91,7 @@ unfolding onModel changed
 call-not-7 model kept (Change call) e = planner .one-call model kept .never-7 call e
 call-not-7 model kept (Plan page place) e = files .file-rule model kept .never-7 page place e
 call-not-7 model kept (Slack page place) e = slack-calls .slack-rule model kept .never-7 page place e
-call-not-7 model kept (SlackWith id cost period) e = slack-calls .with-rule model kept id cost period .never-7 e
+call-not-7 model kept (SlackWith id cost period deadline) e = slack-calls .with-rule model kept id cost period deadline .never-7 e
 call-not-7 model kept (Line line page place) e = read-not-7 model kept (asked line) page place e
 
 pub never-7 : (model : Model) → Kept model → (call : Call) → onRoster (rosterOf model) call .reply .number ≡ 7 → ⊥

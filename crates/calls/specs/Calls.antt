@@ -18,14 +18,14 @@ use Rattle.calls.specs.Lines.{Asked, malformed, change, plan, slack, ask
 -- "Each call, made with numbers or as a line … Every other argument stands in the list by its value, the bytes of lent lines, tables and pages
 -- included."
 pub data Call : Type 0 where
-  -- Machine, power, admit and retire with numbers; no page is lent to these.
+  -- Machine, power, admit (with a deadline) and retire with numbers; no page is lent to these.
   Change : planner.Call → Call
   Plan : (page : List ℕ) (place : ℕ) → Call
   -- The slack of every test, as frame 83 (02, 2026-01: "It joins demand 3's calls, and the book stays at it").
   Slack : (page : List ℕ) (place : ℕ) → Call
   -- The slack with a job that is not held yet, as numbers; no page is lent to it, and the book stays.
-  SlackWith : (id cost period : ℕ) → Call
-  -- Any call of a frame 01 to 05 or 07 as a line.
+  SlackWith : (id cost period deadline : ℕ) → Call
+  -- Any call of a frame 01 to 07 as a line.
   Line : (line page : List ℕ) (place : ℕ) → Call
 
 -- What is compared of a call: its number, 0 or the refusal's; the page lent to it, after it; and the values that it gives, ticks and remainders.
@@ -68,7 +68,7 @@ unfoldable pub onModel : Model → Call → Done Model
 onModel model (Change call) = changed model call []
 onModel model (Plan page place) = wrote (filed model page place) model
 onModel model (Slack page place) = wrote (slackFiled model page place) model
-onModel model (SlackWith id cost period) = gave (slackWith model id cost period) model
+onModel model (SlackWith id cost period deadline) = gave (slackWith model id cost period deadline) model
 onModel model (Line line page place) = readAs model (asked line) page place
 
 -- ---- On a roster: what the functions' contracts say
@@ -77,7 +77,7 @@ unfoldable pub onRoster : Roster → Call → Done Roster
 onRoster r (Change call) = done (numberOf (replyTo r call .answer)) [] (replyTo r call .roster)
 onRoster r (Plan page place) = wrote (planReply r page place) r
 onRoster r (Slack page place) = wrote (slackReply r page place) r
-onRoster r (SlackWith id cost period) = gave (slackTo r id cost period) r
+onRoster r (SlackWith id cost period deadline) = gave (slackTo r id cost period deadline) r
 onRoster r (Line line page place) =
     let reply = lineReply r line page place in
     done (reply .number) (reply .page) (reply .roster)

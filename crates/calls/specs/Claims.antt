@@ -28,10 +28,19 @@ pub record AskRule (line : List ℕ) : Type 0 where
   pub unread : saidBy line ≡ refused 5 → asked line ≡ malformed
   pub machine : (m L b d : ℕ) → saidBy line ≡ says 1 (m ∷ L ∷ b ∷ d ∷ []) → asked line ≡ change (OpenMachine m L b d)
   pub power : (values : List ℕ) → saidBy line ≡ says 2 values → asked line ≡ change (ReplaceTable values)
-  pub admit : (id cost period : ℕ) → saidBy line ≡ says 3 (id ∷ cost ∷ period ∷ []) → asked line ≡ change (Admit id cost period)
+  -- "Frame 03 means D = T." (02, 2026-04)
+  pub admit : (id cost period : ℕ) → saidBy line ≡ says 3 (id ∷ cost ∷ period ∷ []) → asked line ≡ change (Admit id cost period period)
+  pub admit-due : (id cost period deadline : ℕ) → saidBy line ≡ says 6 (id ∷ cost ∷ period ∷ deadline ∷ [])
+      → asked line ≡ change (Admit id cost period deadline)
   pub retire : (id : ℕ) → saidBy line ≡ says 4 (id ∷ []) → asked line ≡ change (Retire id)
   pub plan-wanted : saidBy line ≡ says 5 [] → asked line ≡ plan
   pub slack-wanted : saidBy line ≡ says 7 [] → asked line ≡ slack
+
+-- 02, 2026-04: "Frame 03 means D = T." On every roster and page a line 03 and a line 06 of the same numbers with D = T do the same.
+abbrev pub SameAtPeriod : Type 0
+SameAtPeriod = (line due : List ℕ) (id cost period : ℕ)
+    → saidBy line ≡ says 3 (id ∷ cost ∷ period ∷ []) → saidBy due ≡ says 6 (id ∷ cost ∷ period ∷ period ∷ [])
+    → (r : Roster) (page : List ℕ) (place : ℕ) → onRoster r (Line due page place) ≡ onRoster r (Line line page place)
 
 -- ---- Demand 3
 
@@ -44,10 +53,12 @@ pub data WantsSlack : Call → List ℕ → ℕ → Type 0 where
   with-numbers : (page : List ℕ) (place : ℕ) → WantsSlack (Slack page place) page place
   as-line : (line page : List ℕ) (place : ℕ) → saidBy line ≡ says 7 [] → WantsSlack (Line line page place) page place
 
--- The calls that offer a job: the call with numbers, and every line that reads as it.
+-- The calls that offer a job: the call with numbers, every line 06 that reads as it and, where D = T, every line 03.
 pub data Offers : Call → Job → Type 0 where
-  with-numbers : (new : Job) → Offers (Change (Admit (new .id) (new .cost) (new .period))) new
-  as-line : (line page : List ℕ) (place : ℕ) (new : Job) → saidBy line ≡ says 3 (new .id ∷ new .cost ∷ new .period ∷ [])
+  with-numbers : (new : Job) → Offers (Change (Admit (new .id) (new .cost) (new .period) (new .deadline))) new
+  as-line : (line page : List ℕ) (place : ℕ) (new : Job) → saidBy line ≡ says 6 (new .id ∷ new .cost ∷ new .period ∷ new .deadline ∷ [])
+      → Offers (Line line page place) new
+  at-period : (line page : List ℕ) (place : ℕ) (new : Job) → new .deadline ≡ new .period → saidBy line ≡ says 3 (new .id ∷ new .cost ∷ new .period ∷ [])
       → Offers (Line line page place) new
 
 -- "The plan filed next is what a plan call straight after the list writes where its page has room." `FiledPlan` says of the levels and raises that
@@ -94,10 +105,10 @@ pub record Demand3 (begins : Beginning) (calls : List Call) : Type 0 where
   -- exactly when its admission is refused by 17.
   pub slack-next : (M : Machine) (table : List ℕ) (jobs : List Job) → modelAfter begins calls ≡ Opened M table jobs
       → SlackNext (rosterAfter begins calls) M table jobs
-  pub slack-with : (id cost period : ℕ) → WithRule (modelAfter begins calls) id cost period
-  pub given : (id cost period : ℕ)
-      → onRoster (rosterAfter begins calls) (SlackWith id cost period)
-      ≡ gave (slackWith (modelAfter begins calls) id cost period) (rosterAfter begins calls)
+  pub slack-with : (id cost period deadline : ℕ) → WithRule (modelAfter begins calls) id cost period deadline
+  pub given : (id cost period deadline : ℕ)
+      → onRoster (rosterAfter begins calls) (SlackWith id cost period deadline)
+      ≡ gave (slackWith (modelAfter begins calls) id cost period deadline) (rosterAfter begins calls)
   -- An import is refused by 1, 18, 19 and 2 in this order, by their conditions, and leaves book and roster empty then; otherwise both are those of
   -- the machine call.
   pub imports : (processors : ℕ) (list : List ℕ) → begins ≡ Import processors list → OrderRule processors list × FollowRule processors list
@@ -118,5 +129,6 @@ pub record HeldInTurn : Type 0 where
 
 pub record Calling : Type 0 where
   pub ask-rule : (line : List ℕ) → AskRule line
+  pub same-at-period : SameAtPeriod
   pub demand-3 : (begins : Beginning) (calls : List Call) → Demand3 begins calls
   pub held-in-turn : HeldInTurn

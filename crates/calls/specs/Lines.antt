@@ -24,15 +24,17 @@ pub data Asked : Type 0 where
   plan : Asked
   slack : Asked
 
--- The kinds 01 to 05 and 07 with their numbers.
+-- The kinds 01 to 07 with their numbers.
 unfoldable pub askedBy : Frame → List ℕ → Asked
 askedBy frame.Malformed values = malformed
 askedBy (frame.Machine m L b d) values = change (OpenMachine m L b d)
 askedBy (frame.Power count) values = change (ReplaceTable (take count values))
-askedBy (frame.Admit id cost period) values = change (Admit id cost period)
+-- "Frame 03 means D = T." (02, 2026-04)
+askedBy (frame.Admit id cost period) values = change (Admit id cost period period)
 askedBy (frame.Retire id) values = change (Retire id)
 askedBy frame.PlanWanted values = plan
 askedBy frame.SlackWanted values = slack
+askedBy (frame.AdmitDue id cost period deadline) values = change (Admit id cost period deadline)
 
 -- A line, its 0A with it.
 unfoldable pub asked : List ℕ → Asked
@@ -64,7 +66,7 @@ malformedNumber r = elim (wellFormed r) [ true ↦ refusalNumber Malformed | fal
 abbrev pub filedAs : Roster → Filed → LineReply
 filedAs r filed = record { number = filed .number; roster = r; page = filed .page; count = filed .count }
 
--- The reply is that of the call with numbers. "Accepted 01 to 04 write nothing."
+-- The reply is that of the call with numbers. "Accepted 01 to 04 write nothing", and no more does 06.
 unfoldable pub replyAs : Roster → Asked → List ℕ → ℕ → LineReply
 replyAs r malformed page place = record { number = malformedNumber r; roster = r; page = page; count = 0 }
 replyAs r (change call) page place = record { number = numberOf (replyTo r call .answer); roster = replyTo r call .roster; page = page; count = 0 }

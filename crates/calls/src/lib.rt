@@ -3,7 +3,7 @@ ghost use mathlib.Core.Path.{_≡_};
 ghost use mathlib.Core.List.{List, []};
 ghost use Prim.Native.Nat.{ℕ};
 ghost use lib.ListN.{take};
-ghost use Rattle.planner.specs.Model.{ReplaceTable};
+ghost use Rattle.planner.specs.Model.{ReplaceTable, Admit};
 ghost use Rattle.refusals.specs.Numbers.{refusalNumber};
 ghost use Rattle.calls.specs.Lines.{change, askedBy, asked, wantsFrame, answeredOn, malformedNumber, replyAs, lineReply, passedOver};
 use filing::Filing;
@@ -57,6 +57,13 @@ fn replace_table(roster: Roster, numbers: [u32; 32], count: usize) -> LineAnswer
     changed(roster.replace_table(&numbers[..end]))
 }
 
+// Kinds 03 and 06. A frame 03 has its period for its deadline.
+fn admit(roster: Roster, id: u16, cost: u16, period: u16, deadline: u16) -> LineAnswer
+    ensures { λ r. ⌜ ((page : List ℕ) (place : ℕ) → answeredOn r page ≡ replyAs roster (change (Admit id cost period deadline)) page place) ⌝ }
+{
+    changed(roster.admit(id as u64, cost as u64, period as u64, deadline as u64))
+}
+
 // A call that files a frame leaves the roster.
 fn filed(filing: Filing, roster: Roster) -> LineAnswer
     ensures { λ r. ⌜ r ≡ record { answer = filing .answer; roster = roster; count = filing .count } ⌝ }
@@ -97,12 +104,16 @@ pub fn call_frame(
             step as u64,
         )),
         Frame::Power { count } => replace_table(roster, numbers, count),
-        Frame::Admit { id, cost, period } => {
-            changed(roster.admit(id as u64, cost as u64, period as u64))
-        }
+        Frame::Admit { id, cost, period } => admit(roster, id, cost, period, period),
         Frame::Retire { id } => changed(roster.retire(id as u64)),
         Frame::PlanWanted => filed(file_plan(roster, page, place), roster),
         Frame::SlackWanted => filed(file_slack(roster, page, place), roster),
+        Frame::AdmitDue {
+            id,
+            cost,
+            period,
+            deadline,
+        } => admit(roster, id, cost, period, deadline),
     }
 }
 
@@ -137,6 +148,12 @@ fn wants_frame(frame: Frame) -> bool
             period: _,
         } => false,
         Frame::Retire { id: _ } => false,
+        Frame::AdmitDue {
+            id: _,
+            cost: _,
+            period: _,
+            deadline: _,
+        } => false,
     }
 }
 

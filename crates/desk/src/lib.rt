@@ -85,6 +85,12 @@ fn is_malformed(frame: Frame) -> bool
         Frame::Retire { id: _ } => false,
         Frame::PlanWanted => false,
         Frame::SlackWanted => false,
+        Frame::AdmitDue {
+            id: _,
+            cost: _,
+            period: _,
+            deadline: _,
+        } => false,
     }
 }
 

@@ -37,6 +37,9 @@ fn other_frames() {
     read(b"030001000A000A\n");
     // admit 258 772 1286: high byte first in each
     read(b"03010203040506\n");
+    // admit 258 772 1286 due 1800: id (2), C (2), T (2), D (2), high byte first in each; 1 10 10 due 11: ranges are not a matter of the line
+    read(b"060102030405060708\n");
+    read(b"060001000A000a000B\n");
     // retire 43981: id (2), AB CD is 171 × 256 + 205
     read(b"04ABCD\n");
     read(b"04abcd\n");
@@ -85,10 +88,8 @@ fn other_bytes() {
 }
 
 fn unknown_kinds() {
-    // an unknown kind: 00; 06, between two kinds; 08, which follows the last kind; 50 and 70, with their digits exchanged; two that are only
-    // written; the last byte
+    // an unknown kind: 00; 08, which follows the last kind; 50 and 70, with their digits exchanged; two that are only written; the last byte
     read(b"00\n");
-    read(b"06\n");
     read(b"08\n");
     read(b"50\n");
     read(b"70\n");
@@ -98,18 +99,23 @@ fn unknown_kinds() {
 }
 
 fn wrong_lengths() {
-    // a wrong length: a byte less and a byte more for 01, 03, 04; a byte more for 05, 07; none, 3 and 5 bytes for 02
+    // a wrong length: a byte less and a byte more for 01, 03, 04, 06; a byte more for 05, 07; none, 3 and 5 bytes for 02; none and those of 03 for
+    // 06
     read(b"010404000100\n");
     read(b"0104040001000100\n");
     read(b"030001000A00\n");
     read(b"030001000A000A00\n");
     read(b"0400\n");
     read(b"04000100\n");
+    read(b"060001000A000A00\n");
+    read(b"060001000A000A000A00\n");
     read(b"0500\n");
     read(b"0700\n");
     read(b"02\n");
     read(b"02000000\n");
     read(b"020000001200\n");
+    read(b"06\n");
+    read(b"060001000A000A\n");
 }
 
 // Each of their lines is malformed.
@@ -149,13 +155,13 @@ fn lengths_of(kind: u8, from: usize, to: usize) {
     }
 }
 
-// Every kind with 0 to 8 bytes after it: frames are 01 and 03 with 6, 02 with 4 and 8, 04 with 2, 05 and 07 with none. Then 02 with 9 to 132:
-// frames are those in fours up to 128.
+// Every kind with 0 to 9 bytes after it: frames are 01 and 03 with 6, 02 with 4 and 8, 04 with 2, 06 with 8, 05 and 07 with none. Then 02 with 10 to
+// 132: frames are those in fours up to 128.
 pub fn lengths() {
     for kind in 0..=255 {
-        lengths_of(kind, 0, 9);
+        lengths_of(kind, 0, 10);
     }
-    lengths_of(2, 9, 133);
+    lengths_of(2, 10, 133);
 }
 
 // Reads 0400 with a digit more and one byte for the last, and prints the byte and the identifier where that is a frame.

@@ -20,6 +20,21 @@ fn values(beside: [u32; 32]) {
     }
 }
 
+// A job, with its period for its deadline.
+fn job(id: u16, cost: u16, period: u16) {
+    text(b"admit");
+    number(id as u64);
+    number(cost as u64);
+    number(period as u64);
+}
+
+// A job with a deadline of its own.
+fn due(id: u16, cost: u16, period: u16, deadline: u16) {
+    job(id, cost, period);
+    text(b" due");
+    number(deadline as u64);
+}
+
 // A line for what was read.
 pub fn reading(got: Reading) {
     let frame = got.frame;
@@ -44,18 +59,19 @@ pub fn reading(got: Reading) {
             text(b":");
             values(beside);
         }
-        Frame::Admit { id, cost, period } => {
-            text(b"admit");
-            number(id as u64);
-            number(cost as u64);
-            number(period as u64);
-        }
+        Frame::Admit { id, cost, period } => job(id, cost, period),
         Frame::Retire { id } => {
             text(b"retire");
             number(id as u64);
         }
         Frame::PlanWanted => text(b"plan wanted"),
         Frame::SlackWanted => text(b"slack wanted"),
+        Frame::AdmitDue {
+            id,
+            cost,
+            period,
+            deadline,
+        } => due(id, cost, period, deadline),
     }
     text(b"\n");
 }

@@ -21,7 +21,7 @@ use Rattle.planner.specs.Roster.{emptyRoster, modelOf, rosterOf, sound, 
 use Rattle.refusals.specs.Numbers.{refusalNumber, numberOf}
 use Rattle.planner.specs.Offers.{offered, offer}
 use Rattle.planner.specs.Calls.{outcomeNumber, after, modelNumbers, modelAfter, rosterAfter}
-use Rattle.planner.specs.Claims.{rosterWith, CallTrials, ExampleCalls, FormTrials}
+use Rattle.planner.specs.Claims.{rosterWith, CallTrials, ExampleCalls, DeadlineCalls, FormTrials}
 
 pub call-trials : CallTrials
 unfolding euclid gcd lcm speed top window hyperperiod work works insert sortDescending largest capacity slowest raise demand holds raisesLeft raiseWhileFails step steps growing planOf rise cube tabulate cubes defaultTable machine jobsFrom entriesOf zeros oneTo jobFits placesOf unused listedAfter listed has remove places.insert speedsFit allBelow isTable tooLong foundNone noPlan refuseIf isOpen onMachine opened weighed admitted retired model.step refusalNumber numberOf outcomeNumber after modelNumbers modelAfter emptyRoster modelOf rosterOf shapeTest sound zeroTest wellFormed replied replyTo rosterAfter rosterWith
@@ -52,6 +52,10 @@ example-calls = record {
   offers = refl;
 }
 
+pub deadline-calls : DeadlineCalls
+unfolding euclid gcd lcm speed top window hyperperiod work works insert sortDescending largest capacity slowest raise demand holds raisesLeft raiseWhileFails step steps growing planOf rise cube tabulate cubes defaultTable machine entriesOf zeros oneTo jobFits placesOf unused listedAfter listed has places.insert speedsFit allBelow isTable tooLong foundNone noPlan refuseIf isOpen onMachine opened weighed admitted model.step refusalNumber outcomeNumber after modelNumbers emptyRoster modelOf rosterOf shapeTest sound zeroTest wellFormed replied replyTo rosterAfter rosterWith offered offer
+deadline-calls = record { range = refl; left = refl; order = refl; offers = refl }
+
 pub form-trials : FormTrials
 unfolding euclid gcd lcm speed top window hyperperiod work works insert sortDescending largest capacity slowest raise demand holds raisesLeft raiseWhileFails step steps growing planOf rise machine jobsFrom entriesOf zeros oneTo jobFits placesOf unused listedAfter listed speedsFit allBelow isTable tooLong foundNone noPlan emptyRoster shapeTest sound zeroTest wellFormed rosterWith
-form-trials = record { kept = refl; not-empty = refl; not-a-machine = refl; not-places = refl; not-planned = refl }
+form-trials = record { kept = refl; not-empty = refl; not-a-machine = refl; not-due = refl; not-places = refl; not-planned = refl }

@@ -114,7 +114,7 @@ any-roster = record {
 
 module _ (M : Machine) (table : List ℕ) (jobs : List Job) (rules : Rules M table jobs) (few : length jobs ≤ 64) (new : Job) (offered : Offered jobs new) where
   abbrev call : Call
-  call = Admit (new .id) (new .cost) (new .period)
+  call = Admit (new .id) (new .cost) (new .period) (new .deadline)
 
   abbrev more : List Job
   more = insert new jobs
@@ -129,7 +129,7 @@ module _ (M : Machine) (table : List ℕ) (jobs : List Job) (rules : Rules M tab
   unfolding step onMachine admitted weighed refuseIf
   only-17 =
       rw (
-        ranging .rule .one-job (new .id) (new .cost) (new .period) .1 (offered .in-range),
+        ranging .rule .one-job (new .id) (new .cost) (new .period) (new .deadline) .1 (offered .in-range),
         offered .new-id,
         lt-leb 64 (length jobs) (offered .place-free),
         long-not more (offered .within-limit),

@@ -8,7 +8,7 @@ use borrow.Author.Tests.{le-leb, lt-leb, lt-ltb, leb-false, not-false}
 use lib.ListN.{length, take, drop}
 use Rattle.gmf.specs.declared.Machine.{Machine}
 use Rattle.gmf.specs.declared.Job.{Job}
-use Rattle.gmf.specs.Jobs.{JobInRange, hyperperiod, hyperperiodLimit, job}
+use Rattle.gmf.specs.Jobs.{JobInRange, hyperperiod, hyperperiodLimit, jobDue}
 use Rattle.places.specs.Places.{has, before, insert}
 use Rattle.places.proofs.Results.{placing}
 use Rattle.ranges.specs.Ranges.{jobFits}
@@ -42,25 +42,25 @@ turned-away r right e same f g = e ∙ ap₂ (λ (q : Roster) (x : Refusal). off
 
 -- ---- By what the roster was found to be
 
-module _ (r : Roster) (id cost period : ℕ) where
-  offer-unformed : wellFormed r ≡ false → offerOn r id cost period ≡ refused Damaged
+module _ (r : Roster) (id cost period deadline : ℕ) where
+  offer-unformed : wellFormed r ≡ false → offerOn r id cost period deadline ≡ refused Damaged
   unfolding offerOn
   offer-unformed e = rw (e, offerOn)
 
-  offer-well : wellFormed r ≡ true → offerOn r id cost period ≡ offer (modelOf r) id cost period
+  offer-well : wellFormed r ≡ true → offerOn r id cost period deadline ≡ offer (modelOf r) id cost period deadline
   unfolding offerOn
   offer-well e = rw (e, offerOn)
 
-  as-offered : (o : Outcome) → offerOn r id cost period ≡ o → offeringAs r o ≡ offeringTo r id cost period
+  as-offered : (o : Outcome) → offerOn r id cost period deadline ≡ o → offeringAs r o ≡ offeringTo r id cost period deadline
   unfolding offeringTo
   as-offered o e = ap (offeringAs r) (sym e)
 
-  pub offer-damaged : inspected r ≡ condition.Damaged → offeringAs r (refused Damaged) ≡ offeringTo r id cost period
+  pub offer-damaged : inspected r ≡ condition.Damaged → offeringAs r (refused Damaged) ≡ offeringTo r id cost period deadline
   offer-damaged e = as-offered (refused Damaged) (offer-unformed (is-damaged r e))
 
-  pub offer-11 : inspected r ≡ condition.Closed → offeringAs r (refused NoMachine) ≡ offeringTo r id cost period
+  pub offer-11 : inspected r ≡ condition.Closed → offeringAs r (refused NoMachine) ≡ offeringTo r id cost period deadline
   unfolding offer onMachine
-  offer-11 e = as-offered (refused NoMachine) (offer-well (is-closed r e .0) ∙ ap (λ m. offer m id cost period) (is-closed r e .1))
+  offer-11 e = as-offered (refused NoMachine) (offer-well (is-closed r e .0) ∙ ap (λ m. offer m id cost period deadline) (is-closed r e .1))
 
 module _ (r : Roster) (entries : length (r .table) ≡ 32) (places : length (r .jobs) ≡ 64) (s : IsSound r) where
   abbrev M : Machine
@@ -72,19 +72,19 @@ module _ (r : Roster) (entries : length (r .table) ≡ 32) (places : length (r .
   abbrev jobs : List Job
   jobs = take (r .held) (r .jobs)
 
-  module _ (id cost period : ℕ) where
-    on-sound : offerOn r id cost period ≡ offer (Opened M numbers jobs) id cost period
-    on-sound = offer-well r id cost period (sound-form r entries places s) ∙ ap (λ m. offer m id cost period) (is-opened r entries places s)
+  module _ (id cost period deadline : ℕ) where
+    on-sound : offerOn r id cost period deadline ≡ offer (Opened M numbers jobs) id cost period deadline
+    on-sound = offer-well r id cost period deadline (sound-form r entries places s) ∙ ap (λ m. offer m id cost period deadline) (is-opened r entries places s)
 
-    pub offer-4 : jobFits id cost period ≡ false → offeringAs r (refused JobNumbers) ≡ offeringTo r id cost period
+    pub offer-4 : jobFits id cost period deadline ≡ false → offeringAs r (refused JobNumbers) ≡ offeringTo r id cost period deadline
     unfolding offer onMachine refuseIf
-    offer-4 e = as-offered r id cost period (refused JobNumbers) (on-sound ∙ rw e)
+    offer-4 e = as-offered r id cost period deadline (refused JobNumbers) (on-sound ∙ rw e)
 
-    pub offer-in : jobFits id cost period ≡ true → offeringAs r (onMachine (modelOf r) (offered (job id cost period))) ≡ offeringTo r id cost period
+    pub offer-in : jobFits id cost period deadline ≡ true → offeringAs r (onMachine (modelOf r) (offered (jobDue id cost period deadline))) ≡ offeringTo r id cost period deadline
     unfolding offer onMachine refuseIf
     offer-in e =
-        ap (offeringAs r) (on-open r entries places s (offered (job id cost period)))
-        ∙ as-offered r id cost period (offered (job id cost period) M numbers jobs) (on-sound ∙ rw e)
+        ap (offeringAs r) (on-open r entries places s (offered (jobDue id cost period deadline)))
+        ∙ as-offered r id cost period deadline (offered (jobDue id cost period deadline) M numbers jobs) (on-sound ∙ rw e)
 
   module _ (new : Job) where
     abbrev more : List Job
@@ -139,10 +139,10 @@ unfolding admittedOf refuseIf
 later true refusal o = refl
 later false refusal o = refl
 
-as-admitted : (id cost period : ℕ) (model : Model) → step model (Admit id cost period) ≡ admittedOf (offer model id cost period)
+as-admitted : (id cost period deadline : ℕ) (model : Model) → step model (Admit id cost period deadline) ≡ admittedOf (offer model id cost period deadline)
 unfolding step offer onMachine admitted weighed offered admittedOf
-as-admitted id cost period Closed = refl
-as-admitted id cost period (Opened M table jobs) = sym (simp later)
+as-admitted id cost period deadline Closed = refl
+as-admitted id cost period deadline (Opened M table jobs) = sym (simp later)
 
 -- Refused neither by 7 nor by 17.
 abbrev Plain : ℕ → Type 0
@@ -153,10 +153,10 @@ unfolding refuseIf outcomeNumber
 plain-if true refusal o p q = p
 plain-if false refusal o p q = q
 
-plain : (id cost period : ℕ) (model : Model) → Plain (outcomeNumber (offer model id cost period))
+plain : (id cost period deadline : ℕ) (model : Model) → Plain (outcomeNumber (offer model id cost period deadline))
 unfolding offer onMachine offered outcomeNumber refusalNumber
-plain id cost period Closed = (λ e. omega arith, λ e. omega arith)
-plain id cost period (Opened M table jobs) =
+plain id cost period deadline Closed = (λ e. omega arith, λ e. omega arith)
+plain id cost period deadline (Opened M table jobs) =
     plain-if _ JobNumbers _ (λ e. omega arith, λ e. omega arith)
     (plain-if _ IdHeld _ (λ e. omega arith, λ e. omega arith)
     (plain-if _ PlacesFull _ (λ e. omega arith, λ e. omega arith)
@@ -182,17 +182,17 @@ passed {model} true refusal o e = never-refused refusal model e
 passed false refusal o e = (refl, e)
 
 -- What such an offer shows of the job and of the jobs that it joins.
-record Joined (M₀ : Machine) (jobs₀ : List Job) (id cost period : ℕ) (M : Machine) (jobs : List Job) : Type 0 where
+record Joined (M₀ : Machine) (jobs₀ : List Job) (id cost period deadline : ℕ) (M : Machine) (jobs : List Job) : Type 0 where
   same-machine : M ≡ M₀
-  with-it : jobs ≡ insert (job id cost period) jobs₀
-  in-range : JobInRange (job id cost period)
+  with-it : jobs ≡ insert (jobDue id cost period deadline) jobs₀
+  in-range : JobInRange (jobDue id cost period deadline)
   fresh : has id jobs₀ ≡ false
   free : length jobs₀ < 64
-  within-limit : hyperperiod (insert (job id cost period) jobs₀) ≤ hyperperiodLimit
+  within-limit : hyperperiod (insert (jobDue id cost period deadline) jobs₀) ≤ hyperperiodLimit
 
-module _ (id cost period : ℕ) where
+module _ (id cost period deadline : ℕ) where
   joined : (M₀ : Machine) (table₀ : List ℕ) (jobs₀ : List Job) (M : Machine) (table : List ℕ) (jobs : List Job)
-      → offer (Opened M₀ table₀ jobs₀) id cost period ≡ accepted (Opened M table jobs) → Joined M₀ jobs₀ id cost period M jobs
+      → offer (Opened M₀ table₀ jobs₀) id cost period deadline ≡ accepted (Opened M table jobs) → Joined M₀ jobs₀ id cost period deadline M jobs
   unfolding offer onMachine offered
   joined M₀ table₀ jobs₀ M table jobs e =
       let fits = passed _ JobNumbers _ e in
@@ -202,14 +202,14 @@ module _ (id cost period : ℕ) where
       record {
         same-machine = cc (short .1);
         with-it = cc (short .1);
-        in-range = ranging .rule .one-job id cost period .0 (not-false _ (fits .0));
+        in-range = ranging .rule .one-job id cost period deadline .0 (not-false _ (fits .0));
         fresh = new .0;
         free = leb-false 64 (length jobs₀) (room .0);
-        within-limit = not-long (insert (job id cost period) jobs₀) (short .0);
+        within-limit = not-long (insert (jobDue id cost period deadline) jobs₀) (short .0);
       }
 
-  adds : (M : Machine) (table : List ℕ) (jobs : List Job) (next : Model) → offer (Opened M table jobs) id cost period ≡ accepted next
-      → next ≡ Opened M table (insert (job id cost period) jobs)
+  adds : (M : Machine) (table : List ℕ) (jobs : List Job) (next : Model) → offer (Opened M table jobs) id cost period deadline ≡ accepted next
+      → next ≡ Opened M table (insert (jobDue id cost period deadline) jobs)
   unfolding offer onMachine offered
   adds M table jobs next e =
       let short = passed _ HyperperiodTooLong _ (passed _ PlacesFull _ (passed _ IdHeld _ (passed _ JobNumbers _ e .1) .1) .1) in
@@ -217,28 +217,28 @@ module _ (id cost period : ℕ) where
 
   -- On a roster: it is sound.
   module _ (r : Roster) (entries : length (r .table) ≡ 32) (places : length (r .jobs) ≡ 64) where
-    accepted-formed : (model : Model) → offerOn r id cost period ≡ accepted model → wellFormed r ≡ true
+    accepted-formed : (model : Model) → offerOn r id cost period deadline ≡ accepted model → wellFormed r ≡ true
     accepted-formed model e = go (wellFormed r) refl
       where
         go : (b : Bool) → wellFormed r ≡ b → wellFormed r ≡ true
         go true f = f
-        go false f = never-refused Damaged model (sym (offer-unformed r id cost period f) ∙ e)
+        go false f = never-refused Damaged model (sym (offer-unformed r id cost period deadline f) ∙ e)
 
-    accepted-open : (model : Model) → offerOn r id cost period ≡ accepted model → r .machine .processors ≡ 0 → ⊥
+    accepted-open : (model : Model) → offerOn r id cost period deadline ≡ accepted model → r .machine .processors ≡ 0 → ⊥
     unfolding offer onMachine
     accepted-open model e none =
         never-refused NoMachine model
-        (sym (offer-well r id cost period (accepted-formed model e) ∙ ap (λ m. offer m id cost period) (model-none r none)) ∙ e)
+        (sym (offer-well r id cost period deadline (accepted-formed model e) ∙ ap (λ m. offer m id cost period deadline) (model-none r none)) ∙ e)
 
-    one-more : (M : Machine) (table : List ℕ) (jobs : List Job) → offerOn r id cost period ≡ accepted (Opened M table jobs)
+    one-more : (M : Machine) (table : List ℕ) (jobs : List Job) → offerOn r id cost period deadline ≡ accepted (Opened M table jobs)
         → (M ≡ r .machine) × WithOneMore r jobs
     one-more M table jobs e =
         let sound = form-sound r entries places (accepted-open (Opened M table jobs) e) (accepted-formed (Opened M table jobs) e) in
         let held = take (r .held) (r .jobs) in
-        let j = joined (r .machine) (take (r .machine .levels) (r .table)) held M table jobs (sym (on-sound r entries places sound id cost period) ∙ e) in
-        let by = placing .tests .jobs (insert (job id cost period) held) .0
-        (placing .inserts (job id cost period) held .listed-again (j .in-range) (rules-listed (r .machine) (take (r .machine .levels) (r .table)) held (sound .rules)) (j .fresh)) in
-        let size = placing .inserts (job id cost period) held .size in (
+        let j = joined (r .machine) (take (r .machine .levels) (r .table)) held M table jobs (sym (on-sound r entries places sound id cost period deadline) ∙ e) in
+        let by = placing .tests .jobs (insert (jobDue id cost period deadline) held) .0
+        (placing .inserts (jobDue id cost period deadline) held .listed-again (j .in-range) (rules-listed (r .machine) (take (r .machine .levels) (r .table)) held (sound .rules)) (j .fresh)) in
+        let size = placing .inserts (jobDue id cost period deadline) held .size in (
           j .same-machine,
           rw (j .with-it) (record {
             machine-range = sound .rules .machine-range;
@@ -250,28 +250,28 @@ module _ (id cost period : ℕ) where
           }),
         )
 
-  offer-opened : (model : Model) → offer model id cost period ≡ accepted Closed → ⊥
+  offer-opened : (model : Model) → offer model id cost period deadline ≡ accepted Closed → ⊥
   unfolding offer onMachine offered is-open-outcome isOpen
   offer-opened Closed e = never-refused NoMachine Closed e
   offer-opened (Opened M table jobs) e =
       let short = passed _ HyperperiodTooLong _ (passed _ PlacesFull _ (passed _ IdHeld _ (passed _ JobNumbers _ e .1) .1) .1) in
       false≢true (sym (ap is-open-outcome (short .1)))
 
-  some-machine : (r : Roster) → offerOn r id cost period ≡ accepted Closed → ⊥
+  some-machine : (r : Roster) → offerOn r id cost period deadline ≡ accepted Closed → ⊥
   some-machine r e = go (wellFormed r) refl
     where
       go : (b : Bool) → wellFormed r ≡ b → ⊥
-      go true f = offer-opened (modelOf r) (sym (offer-well r id cost period f) ∙ e)
-      go false f = never-refused Damaged Closed (sym (offer-unformed r id cost period f) ∙ e)
+      go true f = offer-opened (modelOf r) (sym (offer-well r id cost period deadline f) ∙ e)
+      go false f = never-refused Damaged Closed (sym (offer-unformed r id cost period deadline f) ∙ e)
 
 pub offers : Offers
-offers id cost period = record {
-  as-admitted = as-admitted id cost period;
-  never-17 = λ model. plain id cost period model .1;
+offers id cost period deadline = record {
+  as-admitted = as-admitted id cost period deadline;
+  never-17 = λ model. plain id cost period deadline model .1;
   follows = λ model kept.
-      offer-well (rosterOf model) id cost period (kept-form model kept) ∙ ap (λ m. offer m id cost period) (kept-model model kept);
-  never-7 = λ model kept. plain id cost period model .0;
-  adds = adds id cost period;
-  one-more = one-more id cost period;
-  some-machine = some-machine id cost period;
+      offer-well (rosterOf model) id cost period deadline (kept-form model kept) ∙ ap (λ m. offer m id cost period deadline) (kept-model model kept);
+  never-7 = λ model kept. plain id cost period deadline model .0;
+  adds = adds id cost period deadline;
+  one-more = one-more id cost period deadline;
+  some-machine = some-machine id cost period deadline;
 }

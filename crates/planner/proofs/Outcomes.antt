@@ -8,7 +8,7 @@ use lib.ListN.{length}
 use Rattle.gmf.specs.declared.Machine.{Machine}
 use Rattle.gmf.specs.declared.Job.{Job}
 use Rattle.gmf.specs.Machine.{machine}
-use Rattle.gmf.specs.Jobs.{job}
+use Rattle.gmf.specs.Jobs.{jobDue}
 use Rattle.ranges.specs.Ranges.{oneTo, jobFits}
 use Rattle.places.specs.Places.{has, insert, remove}
 use Rattle.refusals.specs.declared.Refusal.the-variants.{Processors, Speeds, PowerTable, JobNumbers, IdHeld, IdNotHeld, PlacesFull, HyperperiodTooLong, NoPlan}
@@ -43,12 +43,12 @@ module _ (M : Machine) (table : List ℕ) (jobs : List Job) where
   unfolding step onMachine refuseIf
   table-0 numbers e = rw e
 
-  module _ (id cost period : ℕ) where
-    pub admit-4 : jobFits id cost period ≡ false → step (Opened M table jobs) (Admit id cost period) ≡ refused JobNumbers
+  module _ (id cost period deadline : ℕ) where
+    pub admit-4 : jobFits id cost period deadline ≡ false → step (Opened M table jobs) (Admit id cost period deadline) ≡ refused JobNumbers
     unfolding step onMachine refuseIf
     admit-4 e = rw e
 
-    pub admit-in : jobFits id cost period ≡ true → step (Opened M table jobs) (Admit id cost period) ≡ admitted (job id cost period) M table jobs
+    pub admit-in : jobFits id cost period deadline ≡ true → step (Opened M table jobs) (Admit id cost period deadline) ≡ admitted (jobDue id cost period deadline) M table jobs
     unfolding step onMachine refuseIf
     admit-in e = rw e
 

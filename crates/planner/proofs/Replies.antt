@@ -154,9 +154,9 @@ module _ (r : Roster) (e : inspected r ≡ condition.Closed) where
   unfolding step onMachine
   table-11 numbers = no-machine (ReplaceTable numbers) refl
 
-  pub admit-11 : (id cost period : ℕ) → replied r (refused NoMachine) ≡ replyTo r (Admit id cost period)
+  pub admit-11 : (id cost period deadline : ℕ) → replied r (refused NoMachine) ≡ replyTo r (Admit id cost period deadline)
   unfolding step onMachine
-  admit-11 id cost period = no-machine (Admit id cost period) refl
+  admit-11 id cost period deadline = no-machine (Admit id cost period deadline) refl
 
   pub retire-11 : (id : ℕ) → replied r (refused NoMachine) ≡ replyTo r (Retire id)
   unfolding step onMachine

@@ -1,6 +1,6 @@
 -- The claims of the roster and its calls, proved.
 use Rattle.planner.specs.Claims.{Planner}
-use Rattle.planner.proofs.AcceptanceTrials.{call-trials, example-calls, form-trials}
+use Rattle.planner.proofs.AcceptanceTrials.{call-trials, example-calls, deadline-calls, form-trials}
 use Rattle.planner.proofs.TestRules.{test-rule}
 use Rattle.planner.proofs.Forms.{closed-roster, forms}
 use Rattle.planner.proofs.Replies.{inspects}
@@ -19,5 +19,6 @@ planner = record {
   offers = offers;
   call-trials = call-trials;
   example-calls = example-calls;
+  deadline-calls = deadline-calls;
   form-trials = form-trials;
 }

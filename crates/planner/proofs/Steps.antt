@@ -11,7 +11,7 @@ use lib.ListN.{length}
 use Rattle.gmf.specs.declared.Machine.{Machine}
 use Rattle.gmf.specs.declared.Job.{Job}
 use Rattle.gmf.specs.Machine.{InRange, speed, top, machine}
-use Rattle.gmf.specs.Jobs.{JobInRange, Every, hyperperiod, works, job}
+use Rattle.gmf.specs.Jobs.{JobInRange, Every, hyperperiod, works, jobDue}
 use Rattle.gmf.specs.Claims.{Feasible}
 use Rattle.gmf.proofs.Hyperperiod.{in-range-positive}
 use Rattle.gmf.proofs.Results.{method}
@@ -140,14 +140,14 @@ fair-step model (OpenMachine m L b d) kept =
 fair-step model (ReplaceTable numbers) kept =
     on-machine model _ kept (λ M table jobs rules few.
     guarded _ _ _ refl (λ t. turns (replaces M table jobs rules few numbers (not-false _ t))))
-fair-step model (Admit id cost period) kept =
+fair-step model (Admit id cost period deadline) kept =
     on-machine model _ kept (λ M table jobs rules few.
     guarded _ _ _ refl (λ h.
     guarded _ _ _ refl (λ fresh.
     guarded _ _ _ refl (λ free.
     guarded _ _ _ refl (λ short.
     guarded _ _ _ refl (λ passing.
-    turns (admits M table jobs rules few (job id cost period) (ranging .rule .one-job id cost period .0 (not-false _ h)) fresh
+    turns (admits M table jobs rules few (jobDue id cost period deadline) (ranging .rule .one-job id cost period deadline .0 (not-false _ h)) fresh
     (leb-false 64 (length jobs) free) short passing)))))))
 fair-step model (Retire id) kept =
     on-machine model _ kept (λ M table jobs rules few.

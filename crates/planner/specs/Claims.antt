@@ -8,7 +8,7 @@ use lib.ListN.{length, take, drop, replicate}
 use Rattle.gmf.specs.declared.Machine.{Machine}
 use Rattle.gmf.specs.declared.Job.{Job}
 use Rattle.gmf.specs.Machine.{InRange, machine}
-use Rattle.gmf.specs.Jobs.{JobInRange, ByRisingId, Every, hyperperiod, hyperperiodLimit, works, job}
+use Rattle.gmf.specs.Jobs.{JobInRange, ByRisingId, Every, hyperperiod, hyperperiodLimit, works, job, jobDue}
 use Rattle.gmf.specs.Power.{IsTable}
 use Rattle.gmf.specs.Trials.{jobsFrom}
 use Rattle.gmf.specs.Claims.{Feasible, NonePasses}
@@ -111,7 +111,7 @@ pub record Offered (jobs : List Job) (new : Job) : Type 0 where
 
 -- The number of the answer to it.
 abbrev pub answerTo : Roster → Job → ℕ
-answerTo roster new = numberOf (replyTo roster (Admit (new .id) (new .cost) (new .period)) .answer)
+answerTo roster new = numberOf (replyTo roster (Admit (new .id) (new .cost) (new .period) (new .deadline)) .answer)
 
 -- Demand 3: by the number of its answer it "is turned down exactly when no plan passes with it added"; then by 17, and otherwise it is accepted.
 pub record TurnedDown (number : ℕ) (M : Machine) (jobs : List Job) (new : Job) : Type 0 where
@@ -140,24 +140,24 @@ pub record WithOneMore (r : Roster) (jobs : List Job) : Type 0 where
   pub by-id : ByRisingId jobs
   pub within-limit : hyperperiod jobs ≤ hyperperiodLimit
 
-pub record OfferRule (id cost period : ℕ) : Type 0 where
+pub record OfferRule (id cost period deadline : ℕ) : Type 0 where
   -- "… refused as 03 is, but never by 17 …": what an admission comes to is what the offer does, and 17.
-  pub as-admitted : (model : Model) → step model (Admit id cost period) ≡ admittedOf (offer model id cost period)
-  pub never-17 : (model : Model) → outcomeNumber (offer model id cost period) ≡ 17 → ⊥
+  pub as-admitted : (model : Model) → step model (Admit id cost period deadline) ≡ admittedOf (offer model id cost period deadline)
+  pub never-17 : (model : Model) → outcomeNumber (offer model id cost period deadline) ≡ 17 → ⊥
   -- On the roster of a model that calls can make it is as on the model, and never refused by 7.
-  pub follows : (model : Model) → Kept model → offerOn (rosterOf model) id cost period ≡ offer model id cost period
-  pub never-7 : (model : Model) → Kept model → outcomeNumber (offer model id cost period) ≡ 7 → ⊥
+  pub follows : (model : Model) → Kept model → offerOn (rosterOf model) id cost period deadline ≡ offer model id cost period deadline
+  pub never-7 : (model : Model) → Kept model → outcomeNumber (offer model id cost period deadline) ≡ 7 → ⊥
   -- An accepted offer has the job added, and no other change.
-  pub adds : (M : Machine) (table : List ℕ) (jobs : List Job) (next : Model) → offer (Opened M table jobs) id cost period ≡ accepted next
-      → next ≡ Opened M table (insert (job id cost period) jobs)
+  pub adds : (M : Machine) (table : List ℕ) (jobs : List Job) (next : Model) → offer (Opened M table jobs) id cost period deadline ≡ accepted next
+      → next ≡ Opened M table (insert (jobDue id cost period deadline) jobs)
   -- On a roster it is the roster's machine with the jobs and one more.
   pub one-more : (r : Roster) → length (r .table) ≡ 32 → length (r .jobs) ≡ 64
-      → (M : Machine) (table : List ℕ) (jobs : List Job) → offerOn r id cost period ≡ accepted (Opened M table jobs)
+      → (M : Machine) (table : List ℕ) (jobs : List Job) → offerOn r id cost period deadline ≡ accepted (Opened M table jobs)
       → (M ≡ r .machine) × WithOneMore r jobs
-  pub some-machine : (r : Roster) → offerOn r id cost period ≡ accepted Closed → ⊥
+  pub some-machine : (r : Roster) → offerOn r id cost period deadline ≡ accepted Closed → ⊥
 
 abbrev pub Offers : Type 0
-Offers = (id cost period : ℕ) → OfferRule id cost period
+Offers = (id cost period deadline : ℕ) → OfferRule id cost period deadline
 
 -- ---- Known results
 
@@ -169,30 +169,30 @@ pub record CallTrials : Type 0 where
   -- 01's sheet up to its plan: the job 11/10 is refused by 17.
   pub sheet : modelNumbers Closed (
       OpenMachine 4 4 1 1
-      ∷ Admit 1 10 10
-      ∷ Admit 2 9 10
-      ∷ Admit 3 6 10
-      ∷ Admit 4 5 10
-      ∷ Admit 5 1 10
-      ∷ Admit 6 11 10
+      ∷ Admit 1 10 10 10
+      ∷ Admit 2 9 10 10
+      ∷ Admit 3 6 10 10
+      ∷ Admit 4 5 10 10
+      ∷ Admit 5 1 10 10
+      ∷ Admit 6 11 10 10
       ∷ []
       ) ≡ 0 ∷ 0 ∷ 0 ∷ 0 ∷ 0 ∷ 0 ∷ 17 ∷ []
   -- With no machine, each with a second reason to be refused: 11 comes first, and 1 before 2.
-  pub none-open : modelNumbers Closed (ReplaceTable [] ∷ Admit 0 0 0 ∷ Retire 0 ∷ OpenMachine 0 0 0 0 ∷ OpenMachine 1 2 2 255 ∷ [])
+  pub none-open : modelNumbers Closed (ReplaceTable [] ∷ Admit 0 0 0 0 ∷ Retire 0 ∷ OpenMachine 0 0 0 0 ∷ OpenMachine 1 2 2 255 ∷ [])
       ≡ 11 ∷ 11 ∷ 11 ∷ 1 ∷ 2 ∷ []
   -- With one: 12 before 1; 4 before 13 and 14; 13 before 16 and 17; 16 before 17.
   pub one-open : modelNumbers Closed (
       OpenMachine 1 3 1 1
       ∷ OpenMachine 0 3 1 1
-      ∷ Admit 1 1 4096
-      ∷ Admit 1 0 4096
-      ∷ Admit 1 9000 4097
-      ∷ Admit 2 9000 4097
-      ∷ Admit 2 4097 4096
+      ∷ Admit 1 1 4096 4096
+      ∷ Admit 1 0 4096 4096
+      ∷ Admit 1 9000 4097 4097
+      ∷ Admit 2 9000 4097 4097
+      ∷ Admit 2 4097 4096 4096
       ∷ Retire 0
       ∷ Retire 2
       ∷ Retire 1
-      ∷ Admit 2 4097 4097
+      ∷ Admit 2 4097 4097 4097
       ∷ []
       ) ≡ 0 ∷ 12 ∷ 0 ∷ 4 ∷ 13 ∷ 16 ∷ 17 ∷ 4 ∷ 14 ∷ 0 ∷ 0 ∷ []
   -- "Tables for three levels: 18 48 100 and 5 5 5 accepted; 0 5 9 refused 3." A refused one leaves the table.
@@ -205,14 +205,14 @@ pub record CallTrials : Type 0 where
   pub default-table : modelAfter Closed (OpenMachine 1 3 2 3 ∷ []) ≡ Opened (machine 1 3 2 3) (8 ∷ 125 ∷ 512 ∷ []) []
   -- 64 jobs are held: 13 before 15, and 15 before 16 and 17; and 14.
   pub all-held : map (λ call. outcomeNumber (step (Opened (machine 1 1 1 1) (1 ∷ []) (jobsFrom 1 (replicate 64 (1, 4096)))) call)) (
-      Admit 64 9000 4097 ∷ Admit 65 9000 4097 ∷ Retire 65 ∷ Retire 64 ∷ []
+      Admit 64 9000 4097 4097 ∷ Admit 65 9000 4097 4097 ∷ Retire 65 ∷ Retire 64 ∷ []
       ) ≡ 13 ∷ 15 ∷ 14 ∷ 0 ∷ []
   -- What the calls leave on a roster, refused ones among them.
-  pub left : rosterAfter emptyRoster (OpenMachine 1 3 1 1 ∷ Admit 7 1 2 ∷ Retire 8 ∷ ReplaceTable (0 ∷ 5 ∷ 9 ∷ []) ∷ [])
+  pub left : rosterAfter emptyRoster (OpenMachine 1 3 1 1 ∷ Admit 7 1 2 2 ∷ Retire 8 ∷ ReplaceTable (0 ∷ 5 ∷ 9 ∷ []) ∷ [])
       ≡ rosterWith (machine 1 3 1 1) (1 ∷ 8 ∷ 27 ∷ []) 1 (job 7 1 2 ∷ [])
   -- 7 comes before 12, 3, 4 and 14, and the damaged roster comes back as it was.
   pub damaged : map (λ call. numberOf (replyTo (rosterWith (machine 1 1 1 1) (1 ∷ []) 1 []) call .answer)) (
-      OpenMachine 0 0 0 0 ∷ ReplaceTable [] ∷ Admit 0 0 0 ∷ Retire 9 ∷ []
+      OpenMachine 0 0 0 0 ∷ ReplaceTable [] ∷ Admit 0 0 0 0 ∷ Retire 9 ∷ []
       ) ≡ 7 ∷ 7 ∷ 7 ∷ 7 ∷ []
   pub damaged-left : replyTo (rosterWith (machine 1 1 1 1) (1 ∷ []) 1 []) (Retire 9) .roster ≡ rosterWith (machine 1 1 1 1) (1 ∷ []) 1 []
 
@@ -228,21 +228,44 @@ Does model call number next = (outcomeNumber (step model call) ≡ number) × (a
 -- 01's sheet, call by call.
 pub record ExampleCalls : Type 0 where
   pub opens : Does Closed (OpenMachine 4 4 1 1) 0 (exampleModel 0)
-  pub admits-1 : Does (exampleModel 0) (Admit 1 10 10) 0 (exampleModel 1)
-  pub admits-2 : Does (exampleModel 1) (Admit 2 9 10) 0 (exampleModel 2)
-  pub admits-3 : Does (exampleModel 2) (Admit 3 6 10) 0 (exampleModel 3)
-  pub admits-4 : Does (exampleModel 3) (Admit 4 5 10) 0 (exampleModel 4)
-  pub admits-5 : Does (exampleModel 4) (Admit 5 1 10) 0 (exampleModel 5)
-  pub refuses-6 : Does (exampleModel 5) (Admit 6 11 10) 17 (exampleModel 5)
+  pub admits-1 : Does (exampleModel 0) (Admit 1 10 10 10) 0 (exampleModel 1)
+  pub admits-2 : Does (exampleModel 1) (Admit 2 9 10 10) 0 (exampleModel 2)
+  pub admits-3 : Does (exampleModel 2) (Admit 3 6 10 10) 0 (exampleModel 3)
+  pub admits-4 : Does (exampleModel 3) (Admit 4 5 10 10) 0 (exampleModel 4)
+  pub admits-5 : Does (exampleModel 4) (Admit 5 1 10 10) 0 (exampleModel 5)
+  pub refuses-6 : Does (exampleModel 5) (Admit 6 11 10 10) 17 (exampleModel 5)
   -- Offered without being admitted: the fifth job goes in, and the sixth is not refused by 17. 4 before 13; 13 before 17; 16 before 17; 11.
-  pub offers-5 : offer (exampleModel 4) 5 1 10 ≡ accepted (exampleModel 5)
-  pub offers : outcomeNumber (offer (exampleModel 5) 6 11 10)
-      ∷ outcomeNumber (offer (exampleModel 5) 1 0 10)
-      ∷ outcomeNumber (offer (exampleModel 5) 1 11 10)
-      ∷ outcomeNumber (offer (Opened (machine 1 1 1 1) (1 ∷ []) (job 1 1 4096 ∷ [])) 2 9000 4097)
-      ∷ outcomeNumber (offer Closed 0 0 0)
+  pub offers-5 : offer (exampleModel 4) 5 1 10 10 ≡ accepted (exampleModel 5)
+  pub offers : outcomeNumber (offer (exampleModel 5) 6 11 10 10)
+      ∷ outcomeNumber (offer (exampleModel 5) 1 0 10 10)
+      ∷ outcomeNumber (offer (exampleModel 5) 1 11 10 10)
+      ∷ outcomeNumber (offer (Opened (machine 1 1 1 1) (1 ∷ []) (job 1 1 4096 ∷ [])) 2 9000 4097 4097)
+      ∷ outcomeNumber (offer Closed 0 0 0 0)
       ∷ []
       ≡ 0 ∷ 4 ∷ 13 ∷ 16 ∷ 11 ∷ []
+
+-- Deadlines before the period's end (02, 2026-04).
+pub record DeadlineCalls : Type 0 where
+  -- A job of cost 2 and period 4 on one processor in quarters: "D from 1 to T, else 4". With D = 2 it takes the top speed, and with D = 1 no plan
+  -- passes.
+  pub range : map (λ D. outcomeNumber (step (Opened (machine 1 4 1 1) (1 ∷ 8 ∷ 27 ∷ 64 ∷ []) []) (Admit 1 2 4 D))) (0 ∷ 1 ∷ 2 ∷ 4 ∷ 5 ∷ [])
+      ≡ 4 ∷ 17 ∷ 0 ∷ 0 ∷ 4 ∷ []
+  -- The roster has the deadline that the call gave; with D = T the job is that of a frame 03.
+  pub left : rosterAfter emptyRoster (OpenMachine 1 3 1 1 ∷ Admit 7 1 4 2 ∷ Admit 8 1 4 4 ∷ [])
+      ≡ rosterWith (machine 1 3 1 1) (1 ∷ 8 ∷ 27 ∷ []) 2 (jobDue 7 1 4 2 ∷ job 8 1 4 ∷ [])
+  -- "… its refusals come in 03's order": 4 before 13, 13 before 16 and 17, 16 before 17; C above D is 17 and not 4.
+  pub order : modelNumbers Closed (
+      OpenMachine 1 1 1 1
+      ∷ Admit 1 1 8192 4096
+      ∷ Admit 1 1 8192 0
+      ∷ Admit 1 9000 9000 4097
+      ∷ Admit 2 9000 9000 4097
+      ∷ Admit 2 4097 9000 4096
+      ∷ []
+      ) ≡ 0 ∷ 0 ∷ 4 ∷ 13 ∷ 16 ∷ 17 ∷ []
+  -- Offered without being admitted: as these, but never 17.
+  pub offers : map (λ D. outcomeNumber (offer (Opened (machine 1 1 1 1) (1 ∷ []) (job 1 1 4096 ∷ [])) 2 9000 9000 D)) (0 ∷ 4097 ∷ 4096 ∷ 9001 ∷ [])
+      ≡ 4 ∷ 16 ∷ 0 ∷ 4 ∷ []
 
 -- Rosters that keep every rule, and rosters that break one.
 pub record FormTrials : Type 0 where
@@ -263,6 +286,14 @@ pub record FormTrials : Type 0 where
       ∷ rosterWith (machine 1 3 1 1) (1 ∷ 8 ∷ 27 ∷ 64 ∷ []) 0 []
       ∷ []
       ) ≡ false ∷ false ∷ false ∷ false ∷ []
+  -- A deadline before the period's end, which keeps every rule; none; one past the period; one in an unused place.
+  pub not-due : map wellFormed (
+      rosterWith (machine 1 1 1 1) (1 ∷ []) 1 (jobDue 7 1 2 1 ∷ [])
+      ∷ rosterWith (machine 1 1 1 1) (1 ∷ []) 1 (jobDue 7 1 2 0 ∷ [])
+      ∷ rosterWith (machine 1 1 1 1) (1 ∷ []) 1 (jobDue 7 1 2 3 ∷ [])
+      ∷ rosterWith (machine 1 1 1 1) (1 ∷ []) 0 (jobDue 0 0 0 1 ∷ [])
+      ∷ []
+      ) ≡ true ∷ false ∷ false ∷ false ∷ []
   -- A range of a job, an id twice, falling ids, a hole, a job in an unused place, a count above 64.
   pub not-places : map wellFormed (
       rosterWith (machine 1 1 1 1) (1 ∷ []) 1 (job 7 0 2 ∷ [])
@@ -277,8 +308,9 @@ pub record FormTrials : Type 0 where
   pub not-planned : map wellFormed (
       rosterWith (machine 1 1 1 1) (1 ∷ []) 2 (job 1 1 4096 ∷ job 2 1 4097 ∷ [])
       ∷ rosterWith (machine 1 1 1 1) (1 ∷ []) 1 (job 7 3 2 ∷ [])
+      ∷ rosterWith (machine 1 1 1 1) (1 ∷ []) 1 (jobDue 7 2 2 1 ∷ [])
       ∷ []
-      ) ≡ false ∷ false ∷ []
+      ) ≡ false ∷ false ∷ false ∷ []
 
 -- ---- All of it
 
@@ -294,4 +326,5 @@ pub record Planner : Type 0 where
   pub offers : Offers
   pub call-trials : CallTrials
   pub example-calls : ExampleCalls
+  pub deadline-calls : DeadlineCalls
   pub form-trials : FormTrials

@@ -8,7 +8,7 @@ use Rattle.gmf.specs.declared.Machine.{Machine}
 use Rattle.gmf.specs.declared.Job.{Job}
 use Rattle.gmf.specs.Power.{defaultTable}
 use Rattle.gmf.specs.Machine.{machine}
-use Rattle.gmf.specs.Jobs.{job}
+use Rattle.gmf.specs.Jobs.{jobDue}
 use Rattle.ranges.specs.Ranges.{oneTo, jobFits}
 use Rattle.places.specs.Places.{has, insert, remove}
 use Rattle.refusals.specs.declared.Refusal.{Refusal}
@@ -34,11 +34,11 @@ pub data Model : Type 0 where
   Closed : Model
   Opened : Machine → List ℕ → List Job → Model
 
--- The calls with their arguments: m, L, b and d; the values; id, C and T; id.
+-- The calls with their arguments: m, L, b and d; the values; id, C, T and D; id.
 pub data Call : Type 0 where
   OpenMachine : ℕ → ℕ → ℕ → ℕ → Call
   ReplaceTable : List ℕ → Call
-  Admit : ℕ → ℕ → ℕ → Call
+  Admit : ℕ → ℕ → ℕ → ℕ → Call
   Retire : ℕ → Call
 
 -- "A call is refused … the book and the page stay. Otherwise:" the next model.
@@ -56,7 +56,7 @@ unfoldable pub isOpen : Model → Bool
 isOpen Closed = false
 isOpen (Opened M table jobs) = true
 
--- "11. A frame 02 to 05 with no machine open." Otherwise what comes of the machine, its table and the jobs.
+-- "11. A frame 02 to 05 with no machine open", and a 06 as a 03. Otherwise what comes of the machine, its table and the jobs.
 unfoldable pub onMachine : Model → (Machine → List ℕ → List Job → Outcome) → Outcome
 onMachine Closed rest = refused NoMachine
 onMachine (Opened M table jobs) rest = rest M table jobs
@@ -85,7 +85,8 @@ retired id M table jobs =
     refuseIf (not (has id jobs)) IdNotHeld
     (accepted (Opened M table (remove id jobs)))
 
--- What a call does. "Order: 01: 5, 12, 1, 2. 02: 5, 11, 3. 03: 5, 11, 4, 13, 15, 16, 17. 04: 5, 11, 4, 14." (5 is a line's.)
+-- What a call does. "Order: 01: 5, 12, 1, 2. 02: 5, 11, 3. 03: 5, 11, 4, 13, 15, 16, 17. 04: 5, 11, 4, 14." (5 is a line's.) Of frame 06, which
+-- has a deadline of its own: "… its refusals come in 03's order." (02, 2026-04)
 unfoldable pub step : Model → Call → Outcome
 step model (OpenMachine m L b d) =
     refuseIf (isOpen model) MachineOpen
@@ -94,7 +95,7 @@ step model (OpenMachine m L b d) =
     (accepted (opened (machine m L b d)))))
 step model (ReplaceTable values) =
     onMachine model (λ M table jobs. refuseIf (not (isTable M values)) PowerTable (accepted (Opened M values jobs)))
-step model (Admit id cost period) =
-    onMachine model (λ M table jobs. refuseIf (not (jobFits id cost period)) JobNumbers (admitted (job id cost period) M table jobs))
+step model (Admit id cost period deadline) =
+    onMachine model (λ M table jobs. refuseIf (not (jobFits id cost period deadline)) JobNumbers (admitted (jobDue id cost period deadline) M table jobs))
 step model (Retire id) =
     onMachine model (λ M table jobs. refuseIf (not (oneTo 65535 id)) JobNumbers (retired id M table jobs))

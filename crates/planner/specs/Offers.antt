@@ -6,7 +6,7 @@ use lib.Dec.{leb}
 use lib.ListN.{length}
 use Rattle.gmf.specs.declared.Machine.{Machine}
 use Rattle.gmf.specs.declared.Job.{Job}
-use Rattle.gmf.specs.Jobs.{job}
+use Rattle.gmf.specs.Jobs.{jobDue}
 use Rattle.ranges.specs.Ranges.{jobFits}
 use Rattle.places.specs.Places.{has, insert}
 use Rattle.workload.specs.declared.Totals.{Totals}
@@ -28,13 +28,13 @@ offered new M table jobs =
     (accepted (Opened M table (insert new jobs)))))
 
 -- The model with the job added; the model that it is offered to stays. "03: 5, 11, 4, 13, 15, 16, 17." (5 is a line's.)
-unfoldable pub offer : Model → ℕ → ℕ → ℕ → Outcome
-offer model id cost period =
-    onMachine model (λ M table jobs. refuseIf (not (jobFits id cost period)) JobNumbers (offered (job id cost period) M table jobs))
+unfoldable pub offer : Model → ℕ → ℕ → ℕ → ℕ → Outcome
+offer model id cost period deadline =
+    onMachine model (λ M table jobs. refuseIf (not (jobFits id cost period deadline)) JobNumbers (offered (jobDue id cost period deadline) M table jobs))
 
 -- On a roster: 7 "is looked at before everything else".
-unfoldable pub offerOn : Roster → ℕ → ℕ → ℕ → Outcome
-offerOn r id cost period = elim (wellFormed r) [ true ↦ offer (modelOf r) id cost period | false ↦ refused Damaged ]
+unfoldable pub offerOn : Roster → ℕ → ℕ → ℕ → ℕ → Outcome
+offerOn r id cost period deadline = elim (wellFormed r) [ true ↦ offer (modelOf r) id cost period deadline | false ↦ refused Damaged ]
 
 -- The totals of a model's jobs. Without a machine there are none, and where a job is turned down none are given.
 unfoldable pub noTotals : Totals
@@ -49,5 +49,5 @@ unfoldable pub offeringAs : Roster → Outcome → Offering
 offeringAs r (refused refusal) = record { answer = Refused refusal; jobs = r .jobs; totals = noTotals }
 offeringAs r (accepted model) = record { answer = Accepted; jobs = rosterOf model .jobs; totals = totalsIn model }
 
-unfoldable pub offeringTo : Roster → ℕ → ℕ → ℕ → Offering
-offeringTo r id cost period = offeringAs r (offerOn r id cost period)
+unfoldable pub offeringTo : Roster → ℕ → ℕ → ℕ → ℕ → Offering
+offeringTo r id cost period deadline = offeringAs r (offerOn r id cost period deadline)

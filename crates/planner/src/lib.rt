@@ -4,7 +4,7 @@ ghost use mathlib.Core.Path.{_≡_};
 ghost use mathlib.Core.Bool.{true};
 ghost use Prim.Native.Nat.{_≤_};
 ghost use lib.ListN.{take};
-ghost use Rattle.gmf.specs.Jobs.{JobInRange};
+ghost use Rattle.gmf.specs.Jobs.{JobInRange, jobDue};
 ghost use Rattle.places.specs.Places.{listed, has, before};
 ghost use Rattle.workload.specs.Load as load;
 ghost use Rattle.planner.specs.Model.{OpenMachine, ReplaceTable, Admit, Retire, refused, onMachine, admitted, retired};
@@ -92,6 +92,19 @@ fn stands_at(jobs: [Job; 64], held: usize, at: usize, id: u16) -> bool
     job.id == id
 }
 
+// The job of numbers that are in range.
+fn job_of(id: u64, cost: u64, period: u64, deadline: u64) -> Job
+    requires { ⌜ JobInRange (jobDue id cost period deadline) ⌝ }
+    ensures { λ r. ⌜ r ≡ jobDue id cost period deadline ⌝ }
+{
+    Job {
+        id: id as u16,
+        cost: cost as u16,
+        period: period as u16,
+        deadline: deadline as u16,
+    }
+}
+
 // A refusal gives back the roster as it came.
 fn refuse(roster: Roster, refusal: Refusal) -> Reply
     ensures { λ r. ⌜ r ≡ replied roster (refused refusal) ⌝ }
@@ -136,6 +149,7 @@ impl Roster {
                 id: 0,
                 cost: 0,
                 period: 0,
+                deadline: 0,
             }; 64],
         }
     }
@@ -226,22 +240,18 @@ impl Roster {
     }
 
     // Admits a job.
-    pub fn admit(self, id: u64, cost: u64, period: u64) -> Reply
-        ensures { λ r. ⌜ r ≡ replyTo self (Admit id cost period) ⌝ }
+    pub fn admit(self, id: u64, cost: u64, period: u64, deadline: u64) -> Reply
+        ensures { λ r. ⌜ r ≡ replyTo self (Admit id cost period deadline) ⌝ }
     {
         let condition = self.inspect();
         match condition {
             Condition::Damaged => refuse(self, Refusal::Damaged),
             Condition::Closed => refuse(self, Refusal::NoMachine),
             Condition::Open(totals) => {
-                if !job_fits(id, cost, period) {
+                if !job_fits(id, cost, period, deadline) {
                     return refuse(self, Refusal::JobNumbers);
                 }
-                let job = Job {
-                    id: id as u16,
-                    cost: cost as u16,
-                    period: period as u16,
-                };
+                let job = job_of(id, cost, period, deadline);
                 self.enter(job, totals)
             }
         }
@@ -319,22 +329,18 @@ impl Roster {
     }
 
     // Offers a job without admitting it: refused as an admission is, but not for want of a plan.
-    pub fn offer(self, id: u64, cost: u64, period: u64) -> Offering
-        ensures { λ r. ⌜ r ≡ offeringTo self id cost period ⌝ }
+    pub fn offer(self, id: u64, cost: u64, period: u64, deadline: u64) -> Offering
+        ensures { λ r. ⌜ r ≡ offeringTo self id cost period deadline ⌝ }
     {
         let condition = self.inspect();
         match condition {
             Condition::Damaged => turn_away(self, Refusal::Damaged),
             Condition::Closed => turn_away(self, Refusal::NoMachine),
             Condition::Open(totals) => {
-                if !job_fits(id, cost, period) {
+                if !job_fits(id, cost, period, deadline) {
                     return turn_away(self, Refusal::JobNumbers);
                 }
-                let job = Job {
-                    id: id as u16,
-                    cost: cost as u16,
-                    period: period as u16,
-                };
+                let job = job_of(id, cost, period, deadline);
                 self.weigh(job, totals)
             }
         }

@@ -29,18 +29,18 @@ take-replicate zero n v h = refl
 take-replicate (suc m) zero v h = absurd (omega arith)
 take-replicate (suc m) (suc n) v h = ap (λ (l : List ℕ). v ∷ l) (take-replicate m n v (omega arith))
 
-module _ (r : Roster) (entries : length (r .table) ≡ 32) (places : length (r .jobs) ≡ 64) (id cost period : ℕ) (offering : Offering)
-    (is : offering ≡ offeringTo r id cost period) where
-  as-outcome : (o : Outcome) → offerOn r id cost period ≡ o → offering ≡ offeringAs r o
+module _ (r : Roster) (entries : length (r .table) ≡ 32) (places : length (r .jobs) ≡ 64) (id cost period deadline : ℕ) (offering : Offering)
+    (is : offering ≡ offeringTo r id cost period deadline) where
+  as-outcome : (o : Outcome) → offerOn r id cost period deadline ≡ o → offering ≡ offeringAs r o
   unfolding offeringTo
   as-outcome o e = is ∙ ap (offeringAs r) e
 
   -- A refusal.
-  pub with-refused : (refusal : Refusal) → offering .answer ≡ Refused refusal → noSlack refusal ≡ slackTo r id cost period
+  pub with-refused : (refusal : Refusal) → offering .answer ≡ Refused refusal → noSlack refusal ≡ slackTo r id cost period deadline
   unfolding slackTo slackOn offeringAs
-  with-refused refusal e = go (offerOn r id cost period) refl
+  with-refused refusal e = go (offerOn r id cost period deadline) refl
     where
-      go : (o : Outcome) → offerOn r id cost period ≡ o → noSlack refusal ≡ slackOn (offerOn r id cost period)
+      go : (o : Outcome) → offerOn r id cost period deadline ≡ o → noSlack refusal ≡ slackOn (offerOn r id cost period deadline)
       go (refused other) f =
           let same : refusal ≡ other = cc (as-outcome (refused other) f) in
           ap noSlack same ∙ ap slackOn (sym f)
@@ -50,20 +50,20 @@ module _ (r : Roster) (entries : length (r .table) ≡ 32) (places : length (r .
   pub record Added : Type 0 where
     pub table : List ℕ
     pub jobs : List Job
-    pub comes-to : offerOn r id cost period ≡ accepted (Opened (r .machine) table jobs)
+    pub comes-to : offerOn r id cost period deadline ≡ accepted (Opened (r .machine) table jobs)
     pub one-more : WithOneMore r jobs
     pub in-places : take (r .held + 1) (offering .jobs) ≡ jobs
     pub totals-are : offering .totals ≡ totals jobs
 
   pub with-accepted : offering .answer ≡ Accepted → Added
   unfolding offeringAs totalsIn rosterOf
-  with-accepted e = go (offerOn r id cost period) refl
+  with-accepted e = go (offerOn r id cost period deadline) refl
     where
-      go : (o : Outcome) → offerOn r id cost period ≡ o → Added
+      go : (o : Outcome) → offerOn r id cost period deadline ≡ o → Added
       go (refused refusal) f = let z : _≡_ {A = ℕ} 0 1 = cc (as-outcome (refused refusal) f) in absurd (omega arith)
-      go (accepted Closed) f = absurd (planner .offers id cost period .some-machine r f)
+      go (accepted Closed) f = absurd (planner .offers id cost period deadline .some-machine r f)
       go (accepted (Opened M table jobs)) f =
-          let rule = planner .offers id cost period .one-more r entries places M table jobs f in
+          let rule = planner .offers id cost period deadline .one-more r entries places M table jobs f in
           let made = as-outcome (accepted (Opened M table jobs)) f in
           record {
             table = table;
@@ -85,7 +85,7 @@ module _ (r : Roster) (entries : length (r .table) ≡ 32) (places : length (r .
 
     pub with-it : (result : SlackAnswer) (levels : List ℕ)
         → result ≡ slackUnder (r .machine) (take (r .held + 1) (offering .jobs)) (take (r .machine .processors) levels)
-        → levels ≡ replicate 32 (r .machine .levels - 1) → result ≡ slackTo r id cost period
+        → levels ≡ replicate 32 (r .machine .levels - 1) → result ≡ slackTo r id cost period deadline
     unfolding slackTo slackOn allAtTop
     with-it result levels e f =
         let few : r .machine .processors ≤ 32 = a .one-more .machine-range .processors .1 in

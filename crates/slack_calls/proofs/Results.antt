@@ -9,6 +9,6 @@ slack-calls = record {
   slack-closed = slack-closed;
   reply-rule = reply-rule;
   slack-rule = slack-rule;
-  with-rule = λ model kept id cost period. with-rule id cost period model kept;
+  with-rule = λ model kept id cost period deadline. with-rule id cost period deadline model kept;
   trials = trials;
 }

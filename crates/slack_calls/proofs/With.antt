@@ -13,7 +13,7 @@ use lib.Signed.{_<ℤ_, <ℤ-irrefl}
 use Rattle.gmf.specs.declared.Machine.{Machine}
 use Rattle.gmf.specs.declared.Job.{Job}
 use Rattle.gmf.specs.Machine.{InRange}
-use Rattle.gmf.specs.Jobs.{hyperperiod, works, job}
+use Rattle.gmf.specs.Jobs.{hyperperiod, works, jobDue}
 use Rattle.gmf.specs.Growing.{demand}
 use Rattle.gmf.specs.Claims.{NonePasses}
 use Rattle.slack.specs.Slack.{slackAt, ticksOf, remaindersOf, allAtTop}
@@ -158,55 +158,55 @@ module _ (M : Machine) (in-range : InRange M) (table : List ℕ) (jobs : List Jo
     short = ((λ (k, n). absurd (true≢false (sym (tick-short M in-range jobs k n) ∙ e))), λ z. absurd (omega arith));
   }
 
-module _ (id cost period : ℕ) where
-  abbrev offers : OfferRule id cost period
-  offers = planner .offers id cost period
+module _ (id cost period deadline : ℕ) where
+  abbrev offers : OfferRule id cost period deadline
+  offers = planner .offers id cost period deadline
 
   -- With no machine the offer is refused.
-  never-added : (next : Model) → offer Closed id cost period ≡ accepted next → ⊥
+  never-added : (next : Model) → offer Closed id cost period deadline ≡ accepted next → ⊥
   unfolding offer onMachine outcomeNumber refusalNumber
   never-added next e = let z : _≡_ {A = ℕ} 11 0 = ap outcomeNumber e in omega arith
 
   -- On an open machine it has the job added.
-  added : (M : Machine) (table : List ℕ) (jobs : List Job) (next : Model) → offer (Opened M table jobs) id cost period ≡ accepted next
-      → offer (Opened M table jobs) id cost period ≡ accepted (Opened M table (insert (job id cost period) jobs))
+  added : (M : Machine) (table : List ℕ) (jobs : List Job) (next : Model) → offer (Opened M table jobs) id cost period deadline ≡ accepted next
+      → offer (Opened M table jobs) id cost period deadline ≡ accepted (Opened M table (insert (jobDue id cost period deadline) jobs))
   added M table jobs next e = e ∙ ap accepted (offers .adds M table jobs next e)
 
-  given : (model : Model) → Kept model → Given (offer model id cost period) (step model (Admit id cost period))
-  given model kept = subst (Given (offer model id cost period)) (sym (offers .as-admitted model)) (go model kept (offer model id cost period) refl)
+  given : (model : Model) → Kept model → Given (offer model id cost period deadline) (step model (Admit id cost period deadline))
+  given model kept = subst (Given (offer model id cost period deadline)) (sym (offers .as-admitted model)) (go model kept (offer model id cost period deadline) refl)
     where
-      go : (model : Model) → Kept model → (o : Outcome) → offer model id cost period ≡ o → Given (offer model id cost period) (admittedOf (offer model id cost period))
+      go : (model : Model) → Kept model → (o : Outcome) → offer model id cost period deadline ≡ o → Given (offer model id cost period deadline) (admittedOf (offer model id cost period deadline))
       go model kept (refused reason) e =
           subst (λ (o : Outcome). Given o (admittedOf o)) (sym e)
           (unfold admittedOf in given-refused reason (λ f. offers .never-17 model (ap outcomeNumber e ∙ f)))
       go Closed kept (accepted next) e = absurd (never-added next e)
       go (Opened M table jobs) kept (accepted next) e =
-          let more = insert (job id cost period) jobs in
+          let more = insert (jobDue id cost period deadline) jobs in
           subst (λ (o : Outcome). Given o (admittedOf o)) (sym (added M table jobs next e))
           (unfold admittedOf in given-weighed M (kept .0 .machine-range) table more (noPlan M more) refl)
 
   -- The slack where the number is 0, and where a tick is not of a test.
   module _ (M : Machine) (table : List ℕ) (jobs : List Job) (kept : Kept (Opened M table jobs)) where
     abbrev more : List Job
-    more = insert (job id cost period) jobs
+    more = insert (jobDue id cost period deadline) jobs
 
-    given-ticks : (o : Outcome) → offer (Opened M table jobs) id cost period ≡ o → numberIn (slackOn o) ≡ 0
-        → slackOn (offer (Opened M table jobs) id cost period) ≡ slackUnder M more (allAtTop M)
+    given-ticks : (o : Outcome) → offer (Opened M table jobs) id cost period deadline ≡ o → numberIn (slackOn o) ≡ 0
+        → slackOn (offer (Opened M table jobs) id cost period deadline) ≡ slackUnder M more (allAtTop M)
     unfolding slackOn noSlack
     given-ticks (refused reason) e z = absurd (number-rule .never-0 reason (sym (number-rule .refused reason) ∙ z))
     given-ticks (accepted next) e z = ap slackOn (added M table jobs next e)
 
-    ticks-at : numberIn (slackWith (Opened M table jobs) id cost period) ≡ 0 → (k : ℕ) → k < M .processors
-        → getD (slackWith (Opened M table jobs) id cost period .ticks) k (pos 0)
+    ticks-at : numberIn (slackWith (Opened M table jobs) id cost period deadline) ≡ 0 → (k : ℕ) → k < M .processors
+        → getD (slackWith (Opened M table jobs) id cost period deadline .ticks) k (pos 0)
         ≡ subℕ (suc k * hyperperiod more) (demand M (hyperperiod more) (works more) (suc k))
     unfolding slackWith
     ticks-at z k h =
-        ap (λ (a : SlackAnswer). getD (a .ticks) k (pos 0)) (given-ticks (offer (Opened M table jobs) id cost period) refl z)
+        ap (λ (a : SlackAnswer). getD (a .ticks) k (pos 0)) (given-ticks (offer (Opened M table jobs) id cost period deadline) refl z)
         ∙ tick-is M (kept .0 .machine-range) more k h
         ∙ top-rule M (kept .0 .machine-range) more .ticks (suc k) h
 
-    zeros-after : (o : Outcome) → offer (Opened M table jobs) id cost period ≡ o → (k : ℕ) → M .processors ≤ k
-        → getD (slackOn (offer (Opened M table jobs) id cost period) .ticks) k (pos 0) ≡ pos 0
+    zeros-after : (o : Outcome) → offer (Opened M table jobs) id cost period deadline ≡ o → (k : ℕ) → M .processors ≤ k
+        → getD (slackOn (offer (Opened M table jobs) id cost period deadline) .ticks) k (pos 0) ≡ pos 0
     unfolding slackOn noSlack
     zeros-after (refused reason) e k h =
         ap (λ (o : Outcome). getD (slackOn o .ticks) k (pos 0)) e ∙ all-alike (pos 0) 32 k
@@ -215,11 +215,11 @@ module _ (id cost period : ℕ) where
 
   abbrev TicksAt : Machine → List Job → SlackAnswer → Type 0
   TicksAt M jobs a =
-      let more = insert (job id cost period) jobs in
+      let more = insert (jobDue id cost period deadline) jobs in
       numberIn a ≡ 0 → (k : ℕ) → k < M .processors
       → getD (a .ticks) k (pos 0) ≡ subℕ (suc k * hyperperiod more) (demand M (hyperperiod more) (works more) (suc k))
 
-  pub with-rule : (model : Model) → Kept model → WithRule model id cost period
+  pub with-rule : (model : Model) → Kept model → WithRule model id cost period deadline
   unfolding slackWith slackTo
   with-rule model kept =
       let g = given model kept in
@@ -233,9 +233,9 @@ module _ (id cost period : ℕ) where
         zeros = g .zeros;
         no-remainder = g .no-remainder;
         ticks-at = λ M table jobs e.
-            subst (λ (m : Model). TicksAt M jobs (slackOn (offer m id cost period))) (sym e) (ticks-at M table jobs (subst Kept e kept));
+            subst (λ (m : Model). TicksAt M jobs (slackOn (offer m id cost period deadline))) (sym e) (ticks-at M table jobs (subst Kept e kept));
         zeros-after = λ M table jobs e k h.
-            subst (λ (m : Model). getD (slackOn (offer m id cost period) .ticks) k (pos 0) ≡ pos 0) (sym e)
-            (zeros-after M table jobs (subst Kept e kept) (offer (Opened M table jobs) id cost period) refl k h);
+            subst (λ (m : Model). getD (slackOn (offer m id cost period deadline) .ticks) k (pos 0) ≡ pos 0) (sym e)
+            (zeros-after M table jobs (subst Kept e kept) (offer (Opened M table jobs) id cost period deadline) refl k h);
         short = g .short;
       }

@@ -9,7 +9,7 @@ use lib.Signed.{_≤ℤ_, _<ℤ_}
 use Rattle.gmf.specs.declared.Machine.{Machine}
 use Rattle.gmf.specs.declared.Job.{Job}
 use Rattle.gmf.specs.Machine.{machine}
-use Rattle.gmf.specs.Jobs.{hyperperiod, works, job}
+use Rattle.gmf.specs.Jobs.{hyperperiod, works, job, jobDue}
 use Rattle.gmf.specs.Growing.{Grown, demand, planOf}
 use Rattle.hexadecimal.specs.Text.{lineOf}
 use Rattle.slack.specs.Slack.{slackAt, ticksOf, remaindersOf}
@@ -77,33 +77,34 @@ abbrev pub numberIn : SlackAnswer → ℕ
 numberIn given = numberOf (given .answer)
 
 -- The number that an admission of the job gets on a model.
-abbrev pub admission : Model → ℕ → ℕ → ℕ → ℕ
-admission model id cost period = outcomeNumber (step model (Admit id cost period))
+abbrev pub admission : Model → ℕ → ℕ → ℕ → ℕ → ℕ
+admission model id cost period deadline = outcomeNumber (step model (Admit id cost period deadline))
 
 -- For every model that calls can make, and whatever numbers.
-pub record WithRule (model : Model) (id cost period : ℕ) : Type 0 where
+pub record WithRule (model : Model) (id cost period deadline : ℕ) : Type 0 where
   -- The call on the model's roster gives what it does on the model.
-  pub follows : slackTo (rosterOf model) id cost period ≡ slackWith model id cost period
+  pub follows : slackTo (rosterOf model) id cost period deadline ≡ slackWith model id cost period deadline
   -- "… refused as 03 is, but never by 17 …", nor by 7: as the admission, and where that is refused by 17, not at all.
-  pub as-admission : (admission model id cost period ≡ 17 → ⊥) → numberIn (slackWith model id cost period) ≡ admission model id cost period
-  pub not-for-17 : admission model id cost period ≡ 17 → numberIn (slackWith model id cost period) ≡ 0
-  pub never-17 : numberIn (slackWith model id cost period) ≡ 17 → ⊥
-  pub never-7 : numberIn (slackWith model id cost period) ≡ 7 → ⊥
+  pub as-admission : (admission model id cost period deadline ≡ 17 → ⊥)
+      → numberIn (slackWith model id cost period deadline) ≡ admission model id cost period deadline
+  pub not-for-17 : admission model id cost period deadline ≡ 17 → numberIn (slackWith model id cost period deadline) ≡ 0
+  pub never-17 : numberIn (slackWith model id cost period deadline) ≡ 17 → ⊥
+  pub never-7 : numberIn (slackWith model id cost period deadline) ≡ 7 → ⊥
   -- 32 entries each; on a refusal all are 0.
-  pub ticks-size : length (slackWith model id cost period .ticks) ≡ 32
-  pub zeros : (numberIn (slackWith model id cost period) ≡ 0 → ⊥) → slackWith model id cost period .ticks ≡ replicate 32 (pos 0)
+  pub ticks-size : length (slackWith model id cost period deadline .ticks) ≡ 32
+  pub zeros : (numberIn (slackWith model id cost period deadline) ≡ 0 → ⊥) → slackWith model id cost period deadline .ticks ≡ replicate 32 (pos 0)
   -- "… there the remainder is always 0."
-  pub no-remainder : slackWith model id cost period .remainders ≡ replicate 32 0
+  pub no-remainder : slackWith model id cost period deadline .remainders ≡ replicate 32 0
   -- Otherwise those of test k + 1, which has (k + 1) × H ticks at top speed, for the jobs with the new one; and 0 from m on.
-  pub ticks-at : (M : Machine) (table : List ℕ) (jobs : List Job) → model ≡ Opened M table jobs → numberIn (slackWith model id cost period) ≡ 0
+  pub ticks-at : (M : Machine) (table : List ℕ) (jobs : List Job) → model ≡ Opened M table jobs → numberIn (slackWith model id cost period deadline) ≡ 0
       → (k : ℕ) → k < M .processors
       →
-      let more = insert (job id cost period) jobs in
-      getD (slackWith model id cost period .ticks) k (pos 0) ≡ subℕ (suc k * hyperperiod more) (demand M (hyperperiod more) (works more) (suc k))
+      let more = insert (jobDue id cost period deadline) jobs in
+      getD (slackWith model id cost period deadline .ticks) k (pos 0) ≡ subℕ (suc k * hyperperiod more) (demand M (hyperperiod more) (works more) (suc k))
   pub zeros-after : (M : Machine) (table : List ℕ) (jobs : List Job) → model ≡ Opened M table jobs
-      → (k : ℕ) → M .processors ≤ k → getD (slackWith model id cost period .ticks) k (pos 0) ≡ pos 0
+      → (k : ℕ) → M .processors ≤ k → getD (slackWith model id cost period deadline .ticks) k (pos 0) ≡ pos 0
   -- Some tick is below zero exactly when the admission is refused by 17.
-  pub short : ((k : ℕ) × (getD (slackWith model id cost period .ticks) k (pos 0) <ℤ pos 0)) ↔ (admission model id cost period ≡ 17)
+  pub short : ((k : ℕ) × (getD (slackWith model id cost period deadline .ticks) k (pos 0) <ℤ pos 0)) ↔ (admission model id cost period deadline ≡ 17)
 
 -- ---- Known results
 
@@ -133,18 +134,22 @@ pub record SlackTrials : Type 0 where
       ≡ record { number = 6; page = replicate 21 7; count = 0 }
   pub no-machine : slackReply emptyRoster [] 1 ≡ record { number = 11; page = []; count = 0 }
   -- 01's sheet, offered the job 11/10 that it turns down: 10, 20, 30 and 40 ticks, works of 11, 21, 30 and, all, 42.
-  pub offered : slackWith (exampleModel 5) 6 11 10
+  pub offered : slackWith (exampleModel 5) 6 11 10 10
       ≡ record { answer = Accepted; ticks = negsuc 0 ∷ negsuc 0 ∷ pos 0 ∷ negsuc 1 ∷ replicate 28 (pos 0); remainders = replicate 32 0 }
   -- A job 9/10: works of 10, 19, 28 and, all, 40.
-  pub fitting : slackWith (exampleModel 5) 6 9 10
+  pub fitting : slackWith (exampleModel 5) 6 9 10 10
       ≡ record { answer = Accepted; ticks = pos 0 ∷ pos 1 ∷ pos 2 ∷ pos 0 ∷ replicate 28 (pos 0); remainders = replicate 32 0 }
+  -- A job of cost 4 and period 10 that is due after 5 ticks: works of 10, 19, 27 and, all, 39.
+  pub due : slackWith (exampleModel 5) 6 4 10 5
+      ≡ record { answer = Accepted; ticks = pos 0 ∷ pos 1 ∷ pos 3 ∷ pos 1 ∷ replicate 28 (pos 0); remainders = replicate 32 0 }
   -- Each refusal, with the next one in the order as well: 7, 11, 4, 13, 15; and 16 where 17 would come next.
-  pub damaged : slackTo (rosterWith (machine 1 1 1 1) (1 ∷ []) 1 []) 0 0 0 ≡ noSlack Damaged
-  pub closed : slackTo emptyRoster 0 0 0 ≡ noSlack NoMachine
-  pub out-of-range : slackWith (exampleModel 5) 1 0 10 ≡ noSlack JobNumbers
-  pub held : slackWith (exampleModel 5) 1 11 10 ≡ noSlack IdHeld
-  pub full : slackWith (Opened (machine 1 1 1 1) (1 ∷ []) (replicate 64 (job 1 1 4096))) 65 9000 4097 ≡ noSlack PlacesFull
-  pub too-long : slackWith (Opened (machine 1 1 1 1) (1 ∷ []) (job 1 1 4096 ∷ [])) 2 9000 4097 ≡ noSlack HyperperiodTooLong
+  pub damaged : slackTo (rosterWith (machine 1 1 1 1) (1 ∷ []) 1 []) 0 0 0 0 ≡ noSlack Damaged
+  pub closed : slackTo emptyRoster 0 0 0 0 ≡ noSlack NoMachine
+  pub out-of-range : slackWith (exampleModel 5) 1 0 10 10 ≡ noSlack JobNumbers
+  pub past-period : slackWith (exampleModel 5) 1 4 10 11 ≡ noSlack JobNumbers
+  pub held : slackWith (exampleModel 5) 1 11 10 10 ≡ noSlack IdHeld
+  pub full : slackWith (Opened (machine 1 1 1 1) (1 ∷ []) (replicate 64 (job 1 1 4096))) 65 9000 4097 4097 ≡ noSlack PlacesFull
+  pub too-long : slackWith (Opened (machine 1 1 1 1) (1 ∷ []) (job 1 1 4096 ∷ [])) 2 9000 4097 4097 ≡ noSlack HyperperiodTooLong
 
 -- ---- All of it
 
@@ -153,5 +158,5 @@ pub record SlackCalls : Type 0 where
   -- Whatever the roster.
   pub reply-rule : (r : Roster) (page : List ℕ) (place : ℕ) → ReplyRule (slackReply r page place) page place
   pub slack-rule : (model : Model) → Kept model → SlackRule model
-  pub with-rule : (model : Model) → Kept model → (id cost period : ℕ) → WithRule model id cost period
+  pub with-rule : (model : Model) → Kept model → (id cost period deadline : ℕ) → WithRule model id cost period deadline
   pub trials : SlackTrials

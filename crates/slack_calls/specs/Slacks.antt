@@ -64,9 +64,9 @@ slackOn (accepted Closed) = noSlack refusal.NoMachine
 slackOn (accepted (Opened M table jobs)) = slackUnder M jobs (allAtTop M)
 
 -- "For a job not yet held, a library call refused as 03 is, but never by 17 …": on the model, which stays, …
-unfoldable pub slackWith : Model → ℕ → ℕ → ℕ → SlackAnswer
-slackWith model id cost period = slackOn (offer model id cost period)
+unfoldable pub slackWith : Model → ℕ → ℕ → ℕ → ℕ → SlackAnswer
+slackWith model id cost period deadline = slackOn (offer model id cost period deadline)
 
 -- … and on a roster.
-unfoldable pub slackTo : Roster → ℕ → ℕ → ℕ → SlackAnswer
-slackTo r id cost period = slackOn (offerOn r id cost period)
+unfoldable pub slackTo : Roster → ℕ → ℕ → ℕ → ℕ → SlackAnswer
+slackTo r id cost period deadline = slackOn (offerOn r id cost period deadline)

@@ -137,10 +137,10 @@ fn no_slack(refusal: Refusal) -> SlackAnswer
 }
 
 // The slack with a job added and every core at top speed: what could still be carried, or how much is too much. The roster stays.
-pub fn slack_with(roster: Roster, id: u64, cost: u64, period: u64) -> SlackAnswer
-    ensures { λ r. ⌜ r ≡ slackTo roster id cost period ⌝ }
+pub fn slack_with(roster: Roster, id: u64, cost: u64, period: u64, deadline: u64) -> SlackAnswer
+    ensures { λ r. ⌜ r ≡ slackTo roster id cost period deadline ⌝ }
 {
-    let offering = roster.offer(id, cost, period);
+    let offering = roster.offer(id, cost, period, deadline);
     let answer = offering.answer;
     match answer {
         Answer::Refused(refusal) => no_slack(refusal),

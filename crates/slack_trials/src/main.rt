@@ -1,5 +1,5 @@
-// Reads a sheet on standard input and makes its lines as calls, from the roster of all zeros. Before each well-formed line 03 is made, the library
-// call is asked for the slack with its job, and the answer is printed; nothing else is. What is beyond 65,536 bytes is not read.
+// Reads a sheet on standard input and makes its lines as calls, from the roster of all zeros. Before each well-formed line 03 or 06 is made, the
+// library call is asked for the slack with its job, and the answer is printed; nothing else is. What is beyond 65,536 bytes is not read.
 // The file `stdout` has what must be printed for the sheet in `stdin`. It is worked out from 01 and 02 by hand: the reason of each result stands
 // in the sheet, where a line of words is a malformed line.
 mod print;
@@ -12,12 +12,21 @@ use libc::STDIN_FILENO;
 use planner::Roster;
 use slack_calls::slack_with;
 
+// Prints the slack with a job; whether to go on.
+fn asked(roster: Roster, id: u16, cost: u16, period: u16, deadline: u16) -> bool {
+    print::slack(slack_with(
+        roster,
+        id as u64,
+        cost as u64,
+        period as u64,
+        deadline as u64,
+    ))
+}
+
 // Prints the slack with the job of an admit frame; whether to go on.
 fn offered(roster: Roster, frame: Frame) -> bool {
     match frame {
-        Frame::Admit { id, cost, period } => {
-            print::slack(slack_with(roster, id as u64, cost as u64, period as u64))
-        }
+        Frame::Admit { id, cost, period } => asked(roster, id, cost, period, period),
         Frame::Malformed => true,
         Frame::Machine {
             processors: _,
@@ -29,6 +38,12 @@ fn offered(roster: Roster, frame: Frame) -> bool {
         Frame::Retire { id: _ } => true,
         Frame::PlanWanted => true,
         Frame::SlackWanted => true,
+        Frame::AdmitDue {
+            id,
+            cost,
+            period,
+            deadline,
+        } => asked(roster, id, cost, period, deadline),
     }
 }
 

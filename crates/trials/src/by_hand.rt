@@ -34,12 +34,32 @@ pub fn with_held(roster: Roster, held: u8) -> Roster {
     next
 }
 
+// A job with its period for its deadline.
 pub fn with_job(roster: Roster, place: usize, id: u16, cost: u16, period: u16) -> Roster {
     let mut jobs = roster.jobs;
     if 64 <= place {
         return roster;
     }
-    jobs[place] = Job { id, cost, period };
+    jobs[place] = Job {
+        id,
+        cost,
+        period,
+        deadline: period,
+    };
+    let mut next = roster;
+    next.jobs = jobs;
+    next
+}
+
+// The deadline of the job in a place.
+pub fn with_deadline(roster: Roster, place: usize, deadline: u16) -> Roster {
+    let mut jobs = roster.jobs;
+    if 64 <= place {
+        return roster;
+    }
+    let mut job = jobs[place];
+    job.deadline = deadline;
+    jobs[place] = job;
     let mut next = roster;
     next.jobs = jobs;
     next
@@ -62,6 +82,16 @@ pub fn calls() {
     mine = with_job(with_held(mine, 2), 0, 10, 1, 4);
     mine = with_job(mine, 1, 20, 1, 2);
     roster = calls::admit(roster, 10, 1, 4);
+    compare(roster, mine);
+    // a job with a deadline of its own goes in between; H is still 4
+    mine = with_deadline(with_job(with_held(mine, 3), 1, 15, 1, 8), 1, 4);
+    mine = with_job(mine, 2, 20, 1, 2);
+    roster = calls::admit_due(roster, 15, 1, 8, 4);
+    compare(roster, mine);
+    // and out again: the places are as before
+    mine = with_job(with_held(mine, 2), 1, 20, 1, 2);
+    mine = with_job(mine, 2, 0, 0, 0);
+    roster = calls::retire(roster, 15);
     compare(roster, mine);
     // the three values are the table; machine and jobs stay
     mine = with_entry(mine, 0, 18);

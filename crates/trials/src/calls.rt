@@ -39,13 +39,27 @@ pub fn replace(roster: Roster, values: &[u32]) -> Roster {
     after
 }
 
+// With its period for its deadline.
 pub fn admit(roster: Roster, id: u64, cost: u64, period: u64) -> Roster {
     print::text(b"admit");
     print::number(id);
     print::number(cost);
     print::number(period);
     print::text(b":");
-    let after = told(roster, roster.admit(id, cost, period));
+    let after = told(roster, roster.admit(id, cost, period, period));
+    print::text(b"\n");
+    after
+}
+
+pub fn admit_due(roster: Roster, id: u64, cost: u64, period: u64, deadline: u64) -> Roster {
+    print::text(b"admit");
+    print::number(id);
+    print::number(cost);
+    print::number(period);
+    print::text(b" due");
+    print::number(deadline);
+    print::text(b":");
+    let after = told(roster, roster.admit(id, cost, period, deadline));
     print::text(b"\n");
     after
 }
@@ -65,8 +79,8 @@ pub fn opened(processors: u64, levels: u64, lowest: u64, step: u64) -> Roster {
     reply.roster
 }
 
-// A job more, and nothing printed.
+// A job more, with its period for its deadline, and nothing printed.
 pub fn admitted(roster: Roster, id: u64, cost: u64, period: u64) -> Roster {
-    let reply = roster.admit(id, cost, period);
+    let reply = roster.admit(id, cost, period, period);
     reply.roster
 }

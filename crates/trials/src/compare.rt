@@ -1,4 +1,5 @@
 // Whether two rosters are the same: every field, all 32 entries and all 64 places.
+use crate::by_hand::with_deadline;
 use crate::by_hand::with_entry;
 use crate::by_hand::with_held;
 use crate::by_hand::with_job;
@@ -27,6 +28,9 @@ fn same_jobs(a: [Job; 64], b: [Job; 64]) -> bool {
             return false;
         }
         if job.period != other.period {
+            return false;
+        }
+        if job.deadline != other.deadline {
             return false;
         }
     }
@@ -87,5 +91,6 @@ pub fn differences() {
     // other: a field of the first place and of the last
     compare(zero, with_job(zero, 0, 1, 0, 0));
     compare(zero, with_job(zero, 63, 0, 1, 0));
-    compare(with_job(zero, 63, 0, 0, 1), zero);
+    compare(with_deadline(with_job(zero, 63, 0, 0, 1), 63, 0), zero);
+    compare(with_deadline(zero, 63, 1), zero);
 }

@@ -1,4 +1,4 @@
-// The cycle H is the least common multiple of the periods on the roster, 1 if it is empty. The work of a job is C × (H / T).
+// The cycle H is the least common multiple of the deadlines on the roster, 1 if it is empty. The work of a job is C × (H / D). Here D is T.
 use crate::calls::admit;
 use crate::calls::opened;
 use crate::calls::retire;

@@ -1,5 +1,6 @@
 // Refusal 7: a roster handed in that breaks a rule. Each rule is broken by itself, in a roster that is good but for it. All four calls must
 // give 7 and the roster as it came, whatever else would refuse them.
+use crate::by_hand::with_deadline;
 use crate::by_hand::with_entry;
 use crate::by_hand::with_held;
 use crate::by_hand::with_job;
@@ -18,12 +19,12 @@ fn calls(label: &[u8], roster: Roster) {
     text(b":");
     told(roster, roster.open_machine(2, 3, 2, 3));
     told(roster, roster.replace_table(&[18, 48, 100]));
-    told(roster, roster.admit(15, 1, 4));
+    told(roster, roster.admit(15, 1, 4, 4));
     told(roster, roster.retire(20));
     text(b",");
     told(roster, roster.open_machine(0, 0, 0, 0));
     told(roster, roster.replace_table(&[]));
-    told(roster, roster.admit(0, 0, 0));
+    told(roster, roster.admit(0, 0, 0, 0));
     told(roster, roster.retire(0));
     text(b"\n");
 }
@@ -118,10 +119,14 @@ pub fn counts() {
     // each field of the next place and of the last, and a job past the jobs
     calls(b"place 3 with an id", with_job(good, 3, 40, 0, 0));
     calls(b"place 3 with a cost", with_job(good, 3, 0, 1, 0));
-    calls(b"place 3 with a period", with_job(good, 3, 0, 0, 4));
+    let period = with_job(good, 3, 0, 0, 4);
+    calls(b"place 3 with a period", with_deadline(period, 3, 0));
+    calls(b"place 3 with a deadline", with_deadline(good, 3, 4));
     calls(b"place 63 with an id", with_job(good, 63, 40, 0, 0));
     calls(b"place 63 with a cost", with_job(good, 63, 0, 1, 0));
-    calls(b"place 63 with a period", with_job(good, 63, 0, 0, 4));
+    let last = with_job(good, 63, 0, 0, 4);
+    calls(b"place 63 with a period", with_deadline(last, 63, 0));
+    calls(b"place 63 with a deadline", with_deadline(good, 63, 4));
     calls(b"place 3 with a job", with_job(good, 3, 40, 1, 4));
     calls(b"place 40 with a job", with_job(good, 40, 40, 1, 4));
 }
@@ -155,6 +160,31 @@ pub fn held_jobs() {
     calls(b"works 9 of 8", with_machine(good, 1, 3, 2, 3));
 }
 
+// A deadline is 1 to its period. The cycle and the plan go by it.
+pub fn deadlines() {
+    let good = sound();
+    // good: H 4; works 1, 2 and 3, where 8 are possible: 12, 0, 0, 0
+    calls(b"deadline 4 in 8", with_deadline(good, 2, 4));
+    calls(b"first deadline 0", with_deadline(good, 0, 0));
+    calls(b"last deadline 0", with_deadline(good, 2, 0));
+    calls(b"first deadline 5 in 4", with_deadline(good, 0, 5));
+    calls(b"last deadline 9 in 8", with_deadline(good, 2, 9));
+    calls(b"last deadline 65535 in 8", with_deadline(good, 2, 65_535));
+    // C is 3 of 8, but D is 2
+    calls(b"cost 3 due after 2", with_deadline(good, 2, 2));
+    // works 8, 4 and 4 fill 16, and with D = 1 the second is 8
+    let full = with_job(good, 0, 10, 4, 4);
+    let due = with_job(full, 2, 30, 4, 8);
+    calls(b"works 20 of 16", with_deadline(due, 1, 1));
+    // periods of 8192, and H is 4096 × 4097
+    let wide = with_job(with_job(good, 0, 10, 1, 8192), 1, 20, 1, 8192);
+    let long = with_deadline(wide, 0, 4096);
+    calls(b"deadlines 4096 and 4097", with_deadline(long, 1, 4097));
+    // good: periods 4096 and 4097, and H is 4096; works 1, 2 and 3 × 512, where 2 × 4096 are possible: 12, 0, 0, 0
+    let periods = with_job(with_job(good, 0, 10, 1, 4096), 1, 20, 1, 4097);
+    calls(b"deadlines 4096 and 2048", with_deadline(periods, 1, 2048));
+}
+
 // With no machine it is all zeros and holds no job.
 pub fn closed() {
     let zero = Roster::empty();
@@ -167,7 +197,14 @@ pub fn closed() {
     calls(b"none, entry 31", with_entry(zero, 31, 1));
     calls(b"none, place 0 with an id", with_job(zero, 0, 10, 0, 0));
     calls(b"none, place 0 with a cost", with_job(zero, 0, 0, 1, 0));
-    calls(b"none, place 0 with a period", with_job(zero, 0, 0, 0, 4));
-    calls(b"none, place 63 with a period", with_job(zero, 63, 0, 0, 4));
+    let first = with_job(zero, 0, 0, 0, 4);
+    calls(b"none, place 0 with a period", with_deadline(first, 0, 0));
+    calls(b"none, place 0 with a deadline", with_deadline(zero, 0, 4));
+    let last = with_job(zero, 63, 0, 0, 4);
+    calls(b"none, place 63 with a period", with_deadline(last, 63, 0));
+    calls(
+        b"none, place 63 with a deadline",
+        with_deadline(zero, 63, 4),
+    );
     calls(b"none, a job", with_held(with_job(zero, 0, 10, 1, 4), 1));
 }

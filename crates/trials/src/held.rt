@@ -46,20 +46,20 @@ pub fn ids() {
     let mut roster = opened(4, 4, 1, 1);
     // jobs 0, and all places zero
     print::jobs(roster);
-    // 0 each; by rising id: 1 5 10, 100 2 10, 200 3 20, 300 1 10, 65535 4 10
+    // 0 each; by rising id, each with its period for its deadline: 1 5 10 10, 100 2 10 10, 200 3 20 20, 300 1 10 10, 65535 4 10 10
     roster = admit(roster, 300, 1, 10);
     roster = admit(roster, 100, 2, 10);
     roster = admit(roster, 200, 3, 20);
     roster = admit(roster, 65_535, 4, 10);
     roster = admit(roster, 1, 5, 10);
     print::jobs(roster);
-    // the first goes out: 100 2 10, 200 3 20, 300 1 10, 65535 4 10
+    // the first goes out: 100 2 10 10, 200 3 20 20, 300 1 10 10, 65535 4 10 10
     roster = retire(roster, 1);
     print::jobs(roster);
-    // one between: 100 2 10, 300 1 10, 65535 4 10
+    // one between: 100 2 10 10, 300 1 10 10, 65535 4 10 10
     roster = retire(roster, 200);
     print::jobs(roster);
-    // the last: 100 2 10, 300 1 10
+    // the last: 100 2 10 10, 300 1 10 10
     roster = retire(roster, 65_535);
     print::jobs(roster);
     // 14: each is gone

@@ -51,7 +51,7 @@ pub fn calls() {
     roster = admit(roster, 7, 1, 2);
     // 4: 65537 is no id, though it is 1 in 16 bits
     roster = retire(roster, 65_537);
-    // machine 2 3 100 78 with 5 5 5; jobs 2 1 65521, 3 5 8, 7 1 2, 9 1 8
+    // machine 2 3 100 78 with 5 5 5; jobs 2 1 65521 65521, 3 5 8 8, 7 1 2 2, 9 1 8 8
     print::machine(roster);
     print::jobs(roster);
     // cycle 524168 work 655218: 8, 5 × 65521, 4 × 65521 and 65521

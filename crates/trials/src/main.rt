@@ -1,11 +1,12 @@
 // Makes calls on rosters, good and damaged, and prints what comes of each. A line has the call and the number of its answer: 0, or that of
 // the refusal. Where the roster that comes back is not the one handed in, the line says `changed`.
-// The file `stdout` has what must be printed. It is worked out from 01 by hand: the reason of each result stands at its trial.
+// The file `stdout` has what must be printed. It is worked out from 01 and 02 by hand: the reason of each result stands at its trial.
 mod by_hand;
 mod calls;
 mod compare;
 mod cycles;
 mod damaged;
+mod deadlines;
 mod edges;
 mod full;
 mod held;
@@ -18,6 +19,10 @@ fn main() {
     compare::differences();
     cycles::cycles();
     cycles::limits();
+    deadlines::ranges();
+    deadlines::sooner();
+    deadlines::cycles();
+    deadlines::order();
     tables::default_tables();
     tables::rules();
     tables::lengths();
@@ -40,6 +45,7 @@ fn main() {
     damaged::tables();
     damaged::counts();
     damaged::held_jobs();
+    damaged::deadlines();
     damaged::closed();
     list::calls();
 }

@@ -66,6 +66,7 @@ fn job(job: Job) {
     number(job.id as u64);
     number(job.cost as u64);
     number(job.period as u64);
+    number(job.deadline as u64);
     text(b";");
 }
 
@@ -79,7 +80,7 @@ fn first_jobs(jobs: [Job; 64], held: usize) {
     }
 }
 
-// The jobs held, each as id, C and T, and what is after them.
+// The jobs held, each as id, C, T and D, and what is after them.
 pub fn jobs(roster: Roster) {
     let held = roster.held as usize;
     let jobs = roster.jobs;

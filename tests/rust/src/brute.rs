@@ -1,5 +1,5 @@
-//! A brute force for small machines: every never-rising plan is tried against the tests as document 01 writes them, and no
-//! passing one may draw less power than the plan filed, under tables drawn at random.
+//! A brute force for small machines: every never-rising plan is tried against the tests as document 01 writes them, with works by
+//! request 2026-04, and no passing one may draw less power than the plan filed, under tables drawn at random.
 
 use crate::archive;
 use crate::facts::Facts;
@@ -21,6 +21,9 @@ pub struct Met {
     pub cheaper_fails: u64,
     pub below_top: u64,
     pub no_job: u64,
+    pub early: u64,
+    pub other_by_period: u64,
+    pub refused_by_deadline: u64,
 }
 
 pub struct Small {
@@ -75,10 +78,47 @@ impl Small {
     }
 }
 
+/// A job offered: what it costs and when it is due. The period decides nothing but which frame can say so.
+#[derive(Clone, Copy)]
+pub struct Offered {
+    cost: u64,
+    period: u64,
+    deadline: u64,
+}
+
+impl Offered {
+    /// A job beside others of this deadline, now and then one that is too heavy.
+    pub fn any(random: &mut Random, deadline: u64) -> Self {
+        let deadline = random.pick(&[deadline, deadline, 2 * deadline, 3 * deadline, 8]);
+        let most = deadline + u64::from(random.one_in(8));
+        let cost = random.between(1, most);
+        let period = deadline + random.pick(&[0, 0, 1, 2, deadline, 8]);
+        Offered { cost, period, deadline }
+    }
+
+    /// Frame 03 can only say that a job is due at its period's end, frame 06 all.
+    pub fn line(&self, random: &mut Random, id: u64) -> String {
+        let Offered { cost, period, deadline } = self;
+        if period == deadline && random.one_in(2) {
+            format!("03{id:04X}{cost:04X}{period:04X}\n")
+        } else {
+            format!("06{id:04X}{cost:04X}{period:04X}{deadline:04X}\n")
+        }
+    }
+
+    pub fn is_early(&self) -> bool {
+        self.deadline < self.period
+    }
+
+    fn with_whole_period(&self) -> Self {
+        Offered { deadline: self.period, ..*self }
+    }
+}
+
 /// The cycle by counting up, and the works from the largest.
-pub fn cycle_and_works(jobs: &[(u64, u64)]) -> (u64, Vec<u64>) {
-    let cycle = (1..).find(|cycle| jobs.iter().all(|(_, period)| cycle % period == 0)).unwrap_or(1);
-    let mut works: Vec<u64> = jobs.iter().map(|(cost, period)| cost * (cycle / period)).collect();
+pub fn cycle_and_works(jobs: &[Offered]) -> (u64, Vec<u64>) {
+    let cycle = (1..).find(|cycle| jobs.iter().all(|job| cycle % job.deadline == 0)).unwrap_or(1);
+    let mut works: Vec<u64> = jobs.iter().map(|job| job.cost * (cycle / job.deadline)).collect();
     works.sort_unstable_by(|a, b| b.cmp(a));
     (cycle, works)
 }
@@ -109,27 +149,20 @@ impl Filed {
     }
 }
 
-/// Cost and period of a job beside others of this period; now and then one that is too heavy.
-pub fn any_job(random: &mut Random, period: u64) -> (u64, u64) {
-    let period = random.pick(&[period, period, 2 * period, 3 * period, 8]);
-    let most = period + u64::from(random.one_in(8));
-    (random.between(1, most), period)
-}
-
 /// One machine with jobs offered one after another; the text says what is wrong and on which sheet.
 pub fn case(random: &mut Random, planner: Planner, met: &mut Met) -> Result<(), String> {
     let small = Small::any(random);
     let plans = small.never_rising();
     let mut lines = small.line();
-    let mut jobs: Vec<(u64, u64)> = Vec::new();
-    let period = random.between(1, 12);
+    let mut jobs: Vec<Offered> = Vec::new();
+    let deadline = random.between(1, 12);
     for id in 0..=random.between(0, 6) {
         let mut offered = (jobs.clone(), lines.clone());
         // The first round has no job, so that the empty roster is planned too.
         if id > 0 {
-            let (cost, period) = any_job(random, period);
-            offered.0.push((cost, period));
-            offered.1.push_str(&format!("03{id:04X}{cost:04X}{period:04X}\n"));
+            let job = Offered::any(random, deadline);
+            offered.0.push(job);
+            offered.1.push_str(&job.line(random, id));
         }
         if examine(&small, &plans, &offered.0, &offered.1, random, planner, met)? {
             (jobs, lines) = offered;
@@ -142,7 +175,7 @@ pub fn case(random: &mut Random, planner: Planner, met: &mut Met) -> Result<(), 
 fn examine(
     small: &Small,
     plans: &[Vec<usize>],
-    jobs: &[(u64, u64)],
+    jobs: &[Offered],
     lines: &str,
     random: &mut Random,
     planner: Planner,
@@ -150,6 +183,7 @@ fn examine(
 ) -> Result<bool, String> {
     let (cycle, works) = cycle_and_works(jobs);
     let passing: Vec<&Vec<usize>> = plans.iter().filter(|plan| small.passes(plan, &works, cycle)).collect();
+    note_deadlines(small, plans, &passing, jobs, met);
     if passing.is_empty() {
         met.refused += 1;
         let (reply, _) = planner(lines.as_bytes());
@@ -172,6 +206,23 @@ fn examine(
         note(small, plans, &passing, &filed, &table, met);
     }
     Ok(true)
+}
+
+// What the same jobs would have with every deadline at its period's end.
+fn note_deadlines(small: &Small, plans: &[Vec<usize>], passing: &[&Vec<usize>], jobs: &[Offered], met: &mut Met) {
+    if !jobs.iter().any(Offered::is_early) {
+        return;
+    }
+    let by_period: Vec<Offered> = jobs.iter().map(Offered::with_whole_period).collect();
+    // Periods need not have a short cycle.
+    if by_period.iter().any(|job| 360 % job.period != 0) {
+        return;
+    }
+    let (cycle, works) = cycle_and_works(&by_period);
+    let others: Vec<&Vec<usize>> = plans.iter().filter(|plan| small.passes(plan, &works, cycle)).collect();
+    met.early += 1;
+    met.other_by_period += u64::from(!passing.is_empty() && passing != others);
+    met.refused_by_deadline += u64::from(passing.is_empty() && !others.is_empty());
 }
 
 fn power(plan: &[usize], table: &[u32]) -> u64 {

@@ -1,7 +1,7 @@
 //! The second planner's slack by brute force: its frame 83 against the levels that it files and the works as document 01 writes
 //! them, and a tick of its library call below zero exactly where every never-rising plan fails.
 
-use crate::brute::{any_job, cycle_and_works, second, Filed, Small};
+use crate::brute::{cycle_and_works, second, Filed, Offered, Small};
 use crate::facts::Facts;
 use crate::planner::astray::Astray;
 use crate::planner::desk;
@@ -15,6 +15,7 @@ pub struct Met {
     pub planned: u64,
     pub short: u64,
     pub exact: u64,
+    pub early: u64,
 }
 
 /// One machine with jobs offered one after another; the text says what is wrong and on which sheet.
@@ -22,13 +23,13 @@ fn case(random: &mut Random, astray: Option<Astray>, met: &mut Met) -> Result<()
     let small = Small::any(random);
     let plans = small.never_rising();
     let mut lines = small.line();
-    let mut jobs: Vec<(u64, u64)> = Vec::new();
-    let period = random.between(1, 12);
+    let mut jobs: Vec<Offered> = Vec::new();
+    let deadline = random.between(1, 12);
     slack_of_plan(&small, &jobs, &lines, astray, met)?;
     for id in 1..=random.between(1, 6) {
-        let (cost, period) = any_job(random, period);
-        jobs.push((cost, period));
-        let offered = format!("{lines}03{id:04X}{cost:04X}{period:04X}\n");
+        let job = Offered::any(random, deadline);
+        jobs.push(job);
+        let offered = format!("{lines}{}", job.line(random, id));
         let (cycle, works) = cycle_and_works(&jobs);
         let passes = plans.iter().any(|plan| small.passes(plan, &works, cycle));
         slack_of_job(&offered, passes, astray, met)?;
@@ -44,7 +45,7 @@ fn case(random: &mut Random, astray: Option<Astray>, met: &mut Met) -> Result<()
 
 fn slack_of_plan(
     small: &Small,
-    jobs: &[(u64, u64)],
+    jobs: &[Offered],
     lines: &str,
     astray: Option<Astray>,
     met: &mut Met,
@@ -54,6 +55,7 @@ fn slack_of_plan(
     let due = frame(small, &filed.levels, jobs);
     let given = desk::printed(sheet.as_bytes(), astray, &mut Facts::new());
     met.planned += 1;
+    met.early += u64::from(jobs.iter().any(Offered::is_early));
     if given == due.as_bytes() {
         Ok(())
     } else {
@@ -62,7 +64,7 @@ fn slack_of_plan(
 }
 
 /// Frame 83 of these levels.
-fn frame(small: &Small, levels: &[usize], jobs: &[(u64, u64)]) -> String {
+fn frame(small: &Small, levels: &[usize], jobs: &[Offered]) -> String {
     let (cycle, works) = cycle_and_works(jobs);
     let top = small.speed(small.l - 1);
     let mut text = String::from("83");

@@ -11,6 +11,7 @@ use crate::planner::library;
 use crate::planner::refusal::NO_ROOM;
 use crate::planner::turns;
 use crate::random::Random;
+use crate::sheets::Side;
 use crate::shrink::shown;
 use std::io::{Read, Write};
 use std::path::Path;
@@ -175,6 +176,17 @@ pub fn differ_in_page(second: &Lent, product: &Lent) -> Option<Difference> {
     let part = |lent: &Lent| shown(&lent.bytes[first..lent.bytes.len().min(first + 89)]);
     let what = format!("page of {} bytes, from byte {}", second.length, first as i64 - GUARD as i64);
     Some(Difference { second: format!("{what}:\n{}", part(second)), product: format!("{what}:\n{}", part(product)) })
+}
+
+/// What the second planner prints for a sheet in the place of a side's program; the host's call has none.
+pub fn second(side: Side, sheet: &[u8], astray: Option<Astray>) -> Vec<u8> {
+    let facts = &mut Facts::new();
+    match side {
+        Side::Host => Vec::new(),
+        Side::Desk => printed(sheet, astray, facts),
+        Side::Library => library::printed(sheet, astray, facts),
+        Side::Turns => turns::printed(sheet, astray, facts),
+    }
 }
 
 /// One desk comparison: every byte that the program prints.

@@ -5,7 +5,7 @@ use crate::brute_slack;
 use crate::compare::{Relation, WITHOUT_ROOM, WITH_ROOM};
 use crate::facts::{Due, Facts, LENGTHS, MARKS};
 use crate::planner::frames::KINDS;
-use crate::planner::refusal::{OF_AN_IMPORT, OF_A_LINE, OF_THE_CALL};
+use crate::planner::refusal::{OF_AN_IMPORT, OF_A_LINE, OF_THE_CALL, TWO_AT_ONCE};
 use crate::sheets::Side;
 use crate::tally::Tally;
 
@@ -29,6 +29,9 @@ impl Table {
 
     pub fn of_side(&mut self, side: Side, facts: &Facts) {
         self.marks(side, facts);
+        if Due::Every.at(side) {
+            self.two_of_06(side.name(), facts);
+        }
         match side {
             Side::Host | Side::Desk => self.of_lines(side, facts),
             Side::Library => {
@@ -43,6 +46,13 @@ impl Table {
                     self.add(format!("turns: a job admitted after refusal {number}"), met);
                 }
             }
+        }
+    }
+
+    fn two_of_06(&mut self, name: &str, facts: &Facts) {
+        for (first, later) in TWO_AT_ONCE {
+            let met = facts.two_of_06[usize::from(first)][usize::from(later)];
+            self.add(format!("{name}: {first} in 06 where {later} holds too"), met);
         }
     }
 
@@ -66,7 +76,7 @@ impl Table {
         let kinds = (0..=255u8).filter(|kind| !KINDS.contains(kind));
         let met: Vec<u64> = kinds.map(|kind| facts.unknown_kinds[usize::from(kind)]).collect();
         self.add(format!("{name}: least met of the {} unknown kinds", met.len()), least(&met));
-        for (kind, longest) in [(1, 12), (2, LENGTHS - 1), (3, 12), (4, 12), (5, 12), (7, 12)] {
+        for (kind, longest) in [(1, 12), (2, LENGTHS - 1), (3, 12), (4, 12), (5, 12), (6, 12), (7, 12)] {
             let met = least(&facts.lengths[kind][..=longest]);
             self.add(format!("{name}: least met of the lengths 0 to {longest} of kind {kind:02}"), met);
         }
@@ -125,7 +135,11 @@ impl Table {
         self.add("brute: several plans pass".into(), met.several_plans);
         self.add("brute: a cheaper plan fails".into(), met.cheaper_fails);
         self.add("brute: a plan below the top".into(), met.below_top);
+        self.add("brute: jobs with an earlier deadline".into(), met.early);
+        self.add("brute: jobs whose periods would have another plan".into(), met.other_by_period);
+        self.add("brute: jobs without a plan whose periods would have one".into(), met.refused_by_deadline);
         self.add("brute: the slack of a plan".into(), slack_met.planned);
+        self.add("brute: the slack with an earlier deadline".into(), slack_met.early);
         self.add("brute: a job short in some test".into(), slack_met.short);
         self.add("brute: a job that leaves no slack in test 1".into(), slack_met.exact);
     }

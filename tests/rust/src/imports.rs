@@ -14,7 +14,7 @@ use crate::planner::import::{has_room, imported, line, reply, Imported, LINE};
 use crate::planner::import_notes::note;
 use crate::planner::refusal::Refusal;
 use crate::random::Random;
-use crate::sheets::draft::{admission, bytes_of};
+use crate::sheets::draft::{bytes_of, either};
 use crate::shrink::{shown, shrink, NUMBER_END};
 use crate::tally::Tally;
 use std::time::Instant;
@@ -97,15 +97,15 @@ fn differ_in_plan(written: &[u8], expected: &Imported, random: &mut Random, fact
     }
 }
 
-/// A cost and a period that fill a processor seldom, and seldom more than that.
+/// A cost and a deadline that fill a processor seldom, and seldom more than that.
 fn job(random: &mut Random, id: u64) -> Frame {
-    let period = random.pick(&[1, 2, 3, 10, 64, 480, 1_024]);
+    let deadline = random.pick(&[1, 2, 3, 10, 64, 480, 1_024]);
     let cost = match random.below(12) {
-        0 => period + 1,
-        1 => period,
-        _ => random.between(1, period),
+        0 => deadline + 1,
+        1 => deadline,
+        _ => random.between(1, deadline),
     };
-    admission(id, cost, period)
+    either(random, id, cost, deadline)
 }
 
 /// The frame of the plan, or the first refusal.

@@ -62,7 +62,7 @@ const LEAST_IN_TURNS: usize = 2_000;
 const SMALL_SHEET: usize = 60;
 
 /// Wrong planners that the brute force must find without a second planner to compare with.
-const FOUND_BY_BRUTE_FORCE: [Astray; 12] = [
+const FOUND_BY_BRUTE_FORCE: [Astray; 30] = [
     Astray::OrderByCost,
     Astray::RoundedUp,
     Astray::BeyondLeftOut,
@@ -75,10 +75,28 @@ const FOUND_BY_BRUTE_FORCE: [Astray; 12] = [
     Astray::EveryCoreAtTop,
     Astray::FirstPlanRepeated,
     Astray::LowestPowerLeftOut,
+    Astray::Kind06Unknown,
+    Astray::Kind06UnknownToHost,
+    Astray::Kind06PassedOver,
+    Astray::Kind06AsKind03,
+    Astray::DeadlineBeforePeriod,
+    Astray::DeadlineBeforeCost,
+    Astray::PlainDeadlineZero,
+    Astray::PlainDeadlineCost,
+    Astray::PlainDeadlineOfLast,
+    Astray::PeriodEndRefused,
+    Astray::CostAboveDeadlineRefused,
+    Astray::WorkByPeriod,
+    Astray::CycleByPeriods,
+    Astray::AllByPeriods,
+    Astray::OrderByPeriod,
+    Astray::GapAddedToCost,
+    Astray::AdmittedByPeriod,
+    Astray::PlannedByPeriod,
 ];
 
 /// The same for the slack.
-const SLACK_FOUND_BY_BRUTE_FORCE: [Astray; 17] = [
+const SLACK_FOUND_BY_BRUTE_FORCE: [Astray; 21] = [
     Astray::SlackBeyondLeftOut,
     Astray::SlackByCost,
     Astray::SlackNotSummed,
@@ -96,10 +114,14 @@ const SLACK_FOUND_BY_BRUTE_FORCE: [Astray; 17] = [
     Astray::SlackLowByteFirst,
     Astray::AskedWithoutJob,
     Astray::ShortAsZero,
+    Astray::WorkByPeriod,
+    Astray::CycleByPeriods,
+    Astray::SlackByPeriod,
+    Astray::AskedByPeriod,
 ];
 
 /// Wrong library calls that don't go with the admission that follows.
-const FOUND_BY_ADMISSION: [Astray; 9] = [
+const FOUND_BY_ADMISSION: [Astray; 12] = [
     Astray::SlackBeyondLeftOut,
     Astray::AskedWithoutJob,
     Astray::AskedAtGrownPlan,
@@ -109,6 +131,9 @@ const FOUND_BY_ADMISSION: [Astray; 9] = [
     Astray::HeldAccepted,
     Astray::FullAccepted,
     Astray::CycleAccepted,
+    Astray::SlackByPeriod,
+    Astray::AskedByPeriod,
+    Astray::AskedDeadlineUnchecked,
 ];
 
 /// The product's programs.

@@ -1,7 +1,7 @@
 //! The sweep over all families, on the host's call, the desk program, the library call and the order of the jobs, and the search
 //! for wrong planners.
 
-use crate::compare::{desk, host, library, turns, Difference, Relation, WITHOUT_ROOM, WITH_ROOM};
+use crate::compare::{desk, host, library, second, turns, Difference, Relation, WITHOUT_ROOM, WITH_ROOM};
 use crate::facts::Facts;
 use crate::planner::astray::Astray;
 use crate::planner::library::printed;
@@ -41,16 +41,28 @@ impl<'a> Trial<'a> {
         }
     }
 
+    fn differs(&self, sheet: &[u8]) -> bool {
+        self.difference(sheet, &mut Facts::new()).is_some()
+    }
+
     /// The smallest sheet found on which the two still differ. A true difference is worth a long search; a wrong planner only has
-    /// to be found, and a process for each probe is dear.
+    /// to be found.
     fn shrunk(&self, sheet: &[u8]) -> Vec<u8> {
-        let budget = match (self.astray, self.side) {
-            (None, Side::Host) => 200_000,
-            (None, _) => 20_000,
-            (_, Side::Host) => 2_000,
-            (_, _) => 80,
-        };
-        shrink(sheet, LINE_END, budget, &mut |sheet| self.difference(sheet, &mut Facts::new()).is_some())
+        match (self.astray, self.side) {
+            (None, Side::Host) => shrink(sheet, LINE_END, 200_000, &mut |sheet| self.differs(sheet)),
+            (None, _) => shrink(sheet, LINE_END, 20_000, &mut |sheet| self.differs(sheet)),
+            (Some(_), Side::Host) => shrink(sheet, LINE_END, 2_000, &mut |sheet| self.differs(sheet)),
+            (Some(astray), side) => {
+                // A process for each probe is dear: the right planner stands in for the product, which has the last word.
+                let apart = &mut |sheet: &[u8]| second(side, sheet, Some(astray)) != second(side, sheet, None);
+                let small = shrink(sheet, LINE_END, 600, apart);
+                if self.differs(&small) {
+                    small
+                } else {
+                    sheet.to_vec()
+                }
+            }
+        }
     }
 }
 

@@ -1,5 +1,5 @@
-//! Trials with known results: document 01's own numbers, and those of the slack, of the import and of the order of the jobs, worked
-//! out by hand.
+//! Trials with known results: document 01's own numbers, and those of the slack, of the import, of the order of the jobs and of
+//! deadlines, worked out by hand. What holds of frame 03 holds of frame 06 with the same deadline, so each sheet is tried with both.
 
 use crate::brute::{product, second};
 use crate::compare::run;
@@ -100,6 +100,106 @@ const TRIALS: &[(&str, &str, &str)] = &[
         "8E000000010B\n8E0000000205\n8E0000000305\n8E0000000405\n8E0000000605\n83 0000000000000000 01\n\
          8E0000000805\n",
     ),
+    (
+        "the printed sheet with deadlines 10, and periods whose cycle is beyond its limit",
+        "01040400010001\n060001000AFFF1000A\n0600020009FFEF000A\n0600030006FFD9000A\n0600040005FFC7000A\n\
+         0600050001FFA9000A\n060006000BFFF1000A\n05\n",
+        "8E0000000711\n81050000000A000000A3000903030201\n",
+    ),
+    (
+        "an id is held by either frame",
+        "01010400010001\n060001000100020002\n03000100010002\n060001000100020001\n05\n040001\n03000100010002\n\
+         060001000100020002\n05\n07\n",
+        "8E000000030D\n8E000000040D\n8101 00000002 00000008 0001 01\n8E000000080D\n\
+         8101 00000002 00000008 0001 01\n83 0000000000000000 00\n",
+    ),
+    // D = 3, 0 and 65,535 for T = 2; then T = 0, and an id or a cost of 0.
+    (
+        "deadlines out of range",
+        "01010400010001\n060001000100020003\n060001000100020000\n06000100010002FFFF\n060001000100000000\n\
+         060001000100000001\n060000000100020001\n060001000000020001\n05\n",
+        "8E0000000204\n8E0000000304\n8E0000000404\n8E0000000504\n8E0000000604\n8E0000000704\n8E0000000804\n\
+         8100 00000001 00000001 0000 00\n",
+    ),
+    // In 2 ticks: 1 and 2 are too much for one core, 1 and 1 fill it.
+    (
+        "1/2 beside 1 of 2 within 1, then within 2",
+        "01010400010001\n03000100010002\n060002000100020001\n060002000100020002\n05\n",
+        "8E0000000311\n8102 00000002 00000040 0003 03\n",
+    ),
+    (
+        "m 1, 6 of 10 within 5, then 5 of 10 within 5",
+        "01010400010001\n0600010006000A0005\n0600010005000A0005\n05\n07\n",
+        "8E0000000211\n8101 00000005 00000040 0003 03\n83 0000000000000000 00\n",
+    ),
+    // Q x 25 = 100 against 100 x 1, then against 99 x 1 and 99 x 2.
+    (
+        "m 1, 25 of 100 within 100, then within 99",
+        "01010400010001\n060001001900640064\n05\n040001\n060001001900640063\n05\n",
+        "8101 00000064 00000001 0000 00\n8101 00000063 00000008 0001 01\n",
+    ),
+    // In 65,535 ticks: 1, then 65,535 and 1. Test 1 takes speed 4, and test 2 holds as it is: 4 x 65,536 against 65,535 x 5.
+    (
+        "the longest and the shortest deadline of 65,535",
+        "01020400010001\n0600010001FFFFFFFF\n05\n0600020001FFFF0001\n05\n",
+        "8101 0000FFFF 00000002 0000 0000\n8102 0000FFFF 00000041 0003 0300\n",
+    ),
+    // In 6 ticks: 3 and 2, so 20 against 6 x 3 and 6 x 4; by the periods 3 and 1 would do with speed 3. Then 4 against 2 x 2.
+    (
+        "1/2, and 1 of 6 within 3, which goes",
+        "01010400010001\n03000100010002\n060002000100060003\n05\n07\n040002\n05\n07\n",
+        "8102 00000006 00000040 0003 03\n83 0000000000000001 00\n8101 00000002 00000008 0001 01\n\
+         83 0000000000000000 00\n",
+    ),
+    ("slack: 1 of 10 within 3 on one core", "01010400010001\n0600010001000A0003\n07\n", "83 0000000000000000 02\n"),
+    // In 4 ticks: 4 within its deadline and 1; by the periods the second would be the larger.
+    (
+        "m 2, 4 of 400 within 4, and 1/4",
+        "01020400010001\n060001000401900004\n03000200010004\n05\n07\n",
+        "8102 00000004 00000041 0003 0300\n83 0000000000000000 00 0000000000000000 00\n",
+    ),
+    (
+        "deadlines 4095 and 4096, periods 4096 and 4097",
+        "01040400010001\n060001000110000FFF\n060002000110011000\n05\n",
+        "8102 00FFF000 00000004 0000 00000000\n",
+    ),
+    (
+        "deadlines 4095 and 4097",
+        "01040400010001\n0600010001FFFF0FFF\n060002000110011001\n05\n",
+        "8102 00FFFFFF 00000004 0000 00000000\n",
+    ),
+    (
+        "deadlines 4096 and 4097, one period",
+        "01040400010001\n060001000110011000\n060002000110011001\n",
+        "8E0000000310\n",
+    ),
+    // The least common multiple is 16,777,217.
+    (
+        "deadlines 257 and 65,281, one period",
+        "01040400010001\n0600010001FFFF0101\n0600020001FFFFFF01\n05\n",
+        "8E0000000310\n8101 00000101 00000004 0000 00000000\n",
+    ),
+    (
+        "a cycle accepted once a deadline has gone",
+        "01040400010001\n060001000110011000\n060002000110011001\n040001\n060002000110011001\n05\n",
+        "8E0000000310\n8101 00001001 00000004 0000 00000000\n",
+    ),
+    // 4 before 13, 13 before 17, 4 before 17, 4 before 16, 16 before 17, and 17.
+    (
+        "two refusals of 06 at once",
+        "01010400010001\n03000100011000\n060001000100020003\n060001FFFFFFFF0001\n060002000500030004\n\
+         060002000110001001\n0600021002FFFF1001\n060002100110021000\n05\n",
+        "8E0000000304\n8E000000040D\n8E0000000504\n8E0000000604\n8E0000000710\n8E0000000811\n\
+         8101 00001000 00000001 0000 00\n",
+    ),
+    (
+        "frames 06 without a machine, and malformed ones",
+        "060001000100020002\n060001000100020000\n06\n01010400010001\n06\n06000100010002\n030001000100020002\n\
+         06000100010002000\n06000100010002000200\n0600010001000200020002\n08\n00\n060001000100020001\n05\n\
+         060002000100020001",
+        "8E000000010B\n8E000000020B\n8E0000000305\n8E0000000505\n8E0000000605\n8E0000000705\n8E0000000805\n\
+         8E0000000905\n8E0000000A05\n8E0000000B05\n8E0000000C05\n8101 00000001 00000040 0003 03\n8E0000000F05\n",
+    ),
 ];
 
 /// Name, sheet, and for each admission in it the number and the ticks of the library call.
@@ -136,6 +236,46 @@ const ASKED: &[Asked] = &[
         &[(0, &[4_094]), (0, &[16_764_929]), (0, &[-1_099_209_654_271])],
     ),
     ("lines that are no admission", "01010400010001\n05\n07\n040001\n0300010001000\n03000100010002", &[]),
+    (
+        "lines 06 that are no admission",
+        "01010400010001\n06\n06000100010002\n030001000100020002\n06000100010002000\n060001000100020001",
+        &[],
+    ),
+    // In 2 ticks: 1; 1 and 2; 1 and 1.
+    (
+        "1/2 beside 1 of 2 within 1, then within 2",
+        "01010400010001\n03000100010002\n060002000100020001\n060002000100020002\n",
+        &[(0, &[1]), (0, &[-1]), (0, &[0])],
+    ),
+    (
+        "jobs in order of cost over deadline, not over period",
+        "01020400010001\n0600010002FFFF0004\n060002000100020001\n060003000300060006\n",
+        &[(0, &[2, 6]), (0, &[0, 2]), (0, &[0, 0])],
+    ),
+    (
+        "refused deadlines",
+        "060001000100020000\n01010400010001\n060000000100020001\n060001000000020001\n060001000100000000\n\
+         060001000100020000\n060001000100020003\n060001000110011000\n0600010FFF10011000\n060001000100020003\n\
+         0600020001FFFF1001\n0600020001FFFF0800\n",
+        &[
+            (11, &[]),
+            (4, &[]),
+            (4, &[]),
+            (4, &[]),
+            (4, &[]),
+            (4, &[]),
+            (0, &[4_095]),
+            (13, &[]),
+            (4, &[]),
+            (16, &[]),
+            (0, &[4_093]),
+        ],
+    ),
+    (
+        "a job of 65,535 within 1 in a long cycle",
+        "01010400010001\n060001000110000FFF\n060002000110011000\n060003FFFFFFFF0001\n",
+        &[(0, &[4_094]), (0, &[16_764_929]), (0, &[-1_099_209_654_271])],
+    ),
 ];
 
 /// Name, sheet, and the ids of the jobs held at its end in the order in which they are taken.
@@ -169,6 +309,29 @@ const TURNS: &[(&str, &str, &[u32])] = &[
          0300010001000\n03000100010001",
         &[5, 8],
     ),
+    // By deadlines 1/2, 1, 3/4 and 2/3; by periods 3 1 4 2.
+    (
+        "cost over deadline, not over period",
+        "01040400010001\n03000100010002\n0600020001FFFF0001\n03000300030004\n060004000200640003\n",
+        &[2, 3, 4, 1],
+    ),
+    (
+        "2/8 and 1 within 4, 3 within 9 and 1/3",
+        "01040400010001\n03000900020008\n0600040001FFFF0004\n0600070003000C0009\n03000200010003\n",
+        &[2, 7, 4, 9],
+    ),
+    // By deadlines 1/4, 1/2 and 1/3.
+    (
+        "1/4, 2/8 and 3/12, equal only over their periods",
+        "01040400010001\n03000100010004\n060002000200080004\n0600030003000C0009\n",
+        &[2, 3, 1],
+    ),
+    ("works by deadlines that differ by one", "01040400010001\n0600010801FFFF1001\n060002080010010FFF\n", &[2, 1]),
+    (
+        "refused deadlines",
+        "01040400010001\n060005000100020003\n060006000100020000\n060007000300040002\n060008000100020002\n",
+        &[8],
+    ),
 ];
 
 /// Name, sheet, reply of the host's call and the frame that it files.
@@ -179,6 +342,18 @@ const HOST: &[(&str, &str, u32, &str)] = &[
     ("a slack line too long", "01010400010001\n0700\n", 5, ""),
     ("a slack line cut short", "01010400010001\n07\n7\n", 5, ""),
     ("a job too many after a slack line", "01010400010001\n07\n03000100020001\n", 17, ""),
+    ("1 of 10 within 3", "01010400010001\n0600010001000A0003\n07\n05\n", 0, "8101 00000003 00000008 0001 01\n"),
+    ("1 of 10 within 10", "01010400010001\n0600010001000A000A\n", 0, "8101 0000000A 00000001 0000 00\n"),
+    ("D = T + 1", "01010400010001\n0600010001000A000B\n", 4, ""),
+    ("D = 0", "01010400010001\n0600010001000A0000\n", 4, ""),
+    ("4 of 10 within 3", "01010400010001\n0600010004000A0003\n", 17, ""),
+    ("deadlines 4096 and 4097", "01010400010001\n0600010001FFFF1000\n0600020001FFFF1001\n", 16, ""),
+    ("an id held by 03", "01010400010001\n03000100010002\n060001000100020001\n", 13, ""),
+    ("an id held by 06", "01010400010001\n060001000100020001\n03000100010002\n", 13, ""),
+    ("a deadline without a machine", "060001000100020001\n", 11, ""),
+    ("06 in 03's length", "01010400010001\n06000100010002\n", 5, ""),
+    ("03 in 06's length", "01010400010001\n030001000100020002\n", 5, ""),
+    ("an unclosed 06", "01010400010001\n060001000100020001", 5, ""),
 ];
 
 /// Processors, list, reply of the import and the digits of the machine line that it writes.
@@ -268,45 +443,101 @@ fn full_roster() -> (String, String) {
     (sheet, format!("8E000000420F\n{plan}{plan}"))
 }
 
+/// 64 jobs of 1/64 by both frames in turn. One more is refused by 15, or by 4 where its deadline is out of range; one that is held
+/// by 13. The place of one that goes serves a job by the other frame.
+fn full_roster_by_both() -> (String, String) {
+    let mut sheet = String::from("01010400010001\n");
+    for id in 1..=64 {
+        let by_06 = format!("06{id:04X}0001FFFF0040\n");
+        sheet.push_str(&if id % 2 == 0 { by_06 } else { format!("03{id:04X}00010040\n") });
+    }
+    sheet.push_str("0600410001FFFF0040\n060041000100400041\n0600010001FFFF0040\n05\n040001\n0600410001FFFF0040\n05\n");
+    let plan = "8140 00000040 00000040 0003 03\n";
+    (sheet, format!("8E000000420F\n8E0000004304\n8E000000440D\n{plan}{plan}"))
+}
+
 /// Jobs of 1/64 and 2/128 by turns, from the highest id down; one more is refused.
 fn full_tie() -> String {
     let job = |id: u32| format!("03{id:04X}{:04X}{:04X}\n", 1 + id % 2, 64 * (1 + id % 2));
     format!("01010400010001\n{}03010000010040\n", (1..=64).rev().map(job).collect::<String>())
 }
 
+/// A sheet as it stands, and twice with frame 06 for each frame 03: the deadline is what the period was, and the period is the same
+/// or the longest one. The period has no effect, so all three have the same result.
+fn forms(name: &str, sheet: &str) -> [(String, Vec<u8>); 3] {
+    let with_period = |period: &str| by_06(sheet, period).into_bytes();
+    [
+        (name.to_string(), sheet.as_bytes().to_vec()),
+        (format!("{name}, by 06"), with_period("")),
+        (format!("{name}, by 06 and in the longest period"), with_period("FFFF")),
+    ]
+}
+
+fn by_06(sheet: &str, period: &str) -> String {
+    let line = |line: &str| match line.strip_suffix('\n') {
+        Some(text) if text.starts_with("03") && text.len() == 14 => {
+            let (job, deadline) = text[2..].split_at(8);
+            let period = if period.is_empty() { deadline } else { period };
+            format!("06{job}{period}{deadline}\n")
+        }
+        _ => line.to_string(),
+    };
+    sheet.split_inclusive('\n').map(line).collect()
+}
+
 /// The second planner and the product's programs print what is known.
 pub fn run_all(programs: &Programs, tally: &mut Tally) {
+    at_the_desk(programs, tally);
+    at_the_host(tally);
+    asked(programs, tally);
+    taken_in_turn(programs, tally);
+    imports(tally);
+}
+
+fn at_the_desk(programs: &Programs, tally: &mut Tally) {
     let (sheet, output) = full_roster();
+    let (both_sheet, both_output) = full_roster_by_both();
     let (slack_sheet, slack_output) = longest_frames();
     let long = "05\n".repeat(21_846);
     let more = [
         ("64 jobs of 1/64", sheet.as_str(), output.as_str()),
+        ("64 jobs of 1/64 by 03 and 06", &both_sheet, &both_output),
         ("a sheet too long", &long[..65_537], "8E0000000005\n"),
         ("the longest slack frames", &slack_sheet, &slack_output),
     ];
     for (name, sheet, output) in TRIALS.iter().copied().chain(more) {
         // The blanks set off the fields of a frame for the reader of this file.
         let due = output.replace(' ', "").into_bytes();
-        let given = printed(sheet.as_bytes(), None, &mut Facts::new());
-        tally.check(&format!("trial, second planner: {name}"), given == due);
-        let given = run(&programs.desk, sheet.as_bytes());
-        tally.check(&format!("trial, desk program: {name}"), given == Ok(due));
+        for (name, sheet) in forms(name, sheet) {
+            let given = printed(&sheet, None, &mut Facts::new());
+            tally.check(&format!("trial, second planner: {name}"), given == due);
+            let given = run(&programs.desk, &sheet);
+            tally.check(&format!("trial, desk program: {name}"), given.as_ref() == Ok(&due));
+        }
     }
+}
+
+fn at_the_host(tally: &mut Tally) {
     for &(name, sheet, reply, frame) in HOST {
         let due = (reply, frame.replace(' ', "").into_bytes());
-        tally
-            .check(&format!("trial of the host's call, second planner: {name}"), second(sheet.as_bytes(), None) == due);
-        tally.check(&format!("trial of the host's call: {name}"), product(sheet.as_bytes()) == due);
+        for (name, sheet) in forms(name, sheet) {
+            tally.check(&format!("trial of the host's call, second planner: {name}"), second(&sheet, None) == due);
+            tally.check(&format!("trial of the host's call: {name}"), product(&sheet) == due);
+        }
     }
+}
+
+fn asked(programs: &Programs, tally: &mut Tally) {
     for (name, sheet, calls) in ASKED {
         let due: String = calls.iter().map(|&(number, ticks)| asked_line(number, ticks)).collect();
-        let given = library::printed(sheet.as_bytes(), None, &mut Facts::new());
-        tally.check(&format!("trial of the library call, second planner: {name}"), given == due.as_bytes());
-        let given = run(&programs.library, sheet.as_bytes());
-        tally.check(&format!("trial of the library call, program: {name}"), given == Ok(due.into_bytes()));
+        let due = due.into_bytes();
+        for (name, sheet) in forms(name, sheet) {
+            let given = library::printed(&sheet, None, &mut Facts::new());
+            tally.check(&format!("trial of the library call, second planner: {name}"), given == due);
+            let given = run(&programs.library, &sheet);
+            tally.check(&format!("trial of the library call, program: {name}"), given.as_ref() == Ok(&due));
+        }
     }
-    taken_in_turn(programs, tally);
-    imports(tally);
 }
 
 fn taken_in_turn(programs: &Programs, tally: &mut Tally) {
@@ -315,11 +546,13 @@ fn taken_in_turn(programs: &Programs, tally: &mut Tally) {
     let more = [("64 jobs of equal work", sheet.as_str(), ids.as_slice())];
     for (name, sheet, ids) in TURNS.iter().copied().chain(more) {
         // No job has the id 0, which stands after the last.
-        let due = format!("{}0\n", ids.iter().map(|id| format!("{id} ")).collect::<String>());
-        let given = turns::printed(sheet.as_bytes(), None, &mut Facts::new());
-        tally.check(&format!("trial of the order of jobs, second planner: {name}"), given == due.as_bytes());
-        let given = run(&programs.turns, sheet.as_bytes());
-        tally.check(&format!("trial of the order of jobs, program: {name}"), given == Ok(due.into_bytes()));
+        let due = format!("{}0\n", ids.iter().map(|id| format!("{id} ")).collect::<String>()).into_bytes();
+        for (name, sheet) in forms(name, sheet) {
+            let given = turns::printed(&sheet, None, &mut Facts::new());
+            tally.check(&format!("trial of the order of jobs, second planner: {name}"), given == due);
+            let given = run(&programs.turns, &sheet);
+            tally.check(&format!("trial of the order of jobs, program: {name}"), given.as_ref() == Ok(&due));
+        }
     }
 }
 

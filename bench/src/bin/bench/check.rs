@@ -17,6 +17,8 @@ struct Met {
     calls: u64,
     replies: BTreeMap<u32, u64>,
     frames: BTreeMap<u32, u64>,
+    /// What the desk made of lines 06: 0 for a job admitted, or a refusal's number.
+    with_deadline: BTreeMap<u32, u64>,
 }
 
 pub fn run(sheets: u64, desks: &Desks) -> Result<(), String> {
@@ -44,6 +46,7 @@ pub fn run(sheets: u64, desks: &Desks) -> Result<(), String> {
         let sheet = sheet(length, &mut random);
         same_frames(desks, &sheet)?;
         met.count_frames(&sheet);
+        met.count_deadlines(&sheet);
     }
     println!(
         "the host's call: {} calls on {sheets} sheets, whole, without their refused lines, and with one of them, agree",
@@ -52,6 +55,7 @@ pub fn run(sheets: u64, desks: &Desks) -> Result<(), String> {
     println!("  replies: {:?}", met.replies);
     println!("the desk programs: {desk_sheets} sheets agree");
     println!("  frames, a plan as 81, slack as 83, a refusal as its number: {:?}", met.frames);
+    println!("  lines 06, a job admitted as 0, a refusal as its number: {:?}", met.with_deadline);
     imports(sheets)
 }
 
@@ -74,7 +78,8 @@ fn imports(lists: u64) -> Result<(), String> {
     Ok(())
 }
 
-/// Sheets at the edges: empty, without the last 0A, of the longest length, and too long by one byte and by many.
+/// Sheets at the edges: empty, without the last 0A, of the longest length, and too long by one byte and by many; and
+/// each of the frames that admit with the length of the other.
 fn edges() -> Vec<Vec<u8>> {
     let mut draft = Draft::on(QUARTERS);
     draft.fill(FULL, Draft::plan);
@@ -90,6 +95,8 @@ fn edges() -> Vec<Vec<u8>> {
         b"05".to_vec(),
         b"07".to_vec(),
         b"07\n0700\n".to_vec(),
+        b"01040400010001\n0300010001000A000A\n05\n".to_vec(),
+        b"01040400010001\n0600010001000A\n05\n".to_vec(),
         full[..FULL - 1].to_vec(),
         vec![b'\n'; FULL],
         slacks.bytes(),
@@ -115,6 +122,19 @@ impl Met {
     fn count_frames(&mut self, sheet: &[u8]) {
         for (_, number) in frames(sheet) {
             *self.frames.entry(number).or_default() += 1;
+        }
+    }
+
+    fn count_deadlines(&mut self, sheet: &[u8]) {
+        // No line is read of a sheet that is too long.
+        if sheet.len() > FULL {
+            return;
+        }
+        let refused: BTreeMap<usize, u32> = frames(sheet).into_iter().collect();
+        for (line, number) in sheet.split_inclusive(|&byte| byte == b'\n').zip(1..) {
+            if line.starts_with(b"06") {
+                *self.with_deadline.entry(refused.get(&number).copied().unwrap_or(0)).or_default() += 1;
+            }
         }
     }
 }

@@ -1,12 +1,12 @@
 //! The cases of the desk program.
 
 use crate::case::Case;
-use crate::draft::{Draft, LARGE, QUARTERS};
+use crate::draft::{Draft, Job, LARGE, QUARTERS};
 use crate::host_cases::{example, RAISES};
 use crate::lines::{convex_table, refused_table, Sort};
 use crate::random::Random;
 use crate::rosters::{jobs, Spread};
-use crate::sheets::{churn, filled, plans, slacks};
+use crate::sheets::{churn, early_churn, filled, plans, slacks};
 use crate::turned_down::Reason;
 
 /// The sheet whose time is taken off the others': the start of a program.
@@ -34,6 +34,7 @@ pub fn all(length: usize, random: &mut Random) -> Vec<Case> {
     cases.extend(jobs_turned_down(length, random));
     cases.extend(malformed(length, random));
     cases.extend(tables(length, random));
+    cases.extend(deadlines(length, random));
     cases
 }
 
@@ -57,6 +58,19 @@ fn jobs_turned_down(length: usize, random: &mut Random) -> Vec<Case> {
     let job = held[0];
     none.fill(length, |draft| draft.admit(job));
     cases.push(Case::desk("jobs refused by 11", none.bytes()));
+    cases
+}
+
+/// Jobs that frame 06 admits or that it turns down, all due before their periods end.
+fn deadlines(length: usize, random: &mut Random) -> Vec<Case> {
+    let mut cases = Vec::new();
+    for held in [5, 64] {
+        let sheet = early_churn(LARGE, held, length, random);
+        cases.push(Case::desk(format!("churn around {held} held, deadlines"), sheet));
+    }
+    let held: Vec<Job> = Reason::NoPlan.held(random).into_iter().map(Job::due_early).collect();
+    let sheet = filled(LARGE, &held, length, |draft| draft.admit(Reason::NoPlan.draw(&held, random).due_early()));
+    cases.push(Case::desk("jobs turned down by 17, deadlines", sheet));
     cases
 }
 

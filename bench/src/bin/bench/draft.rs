@@ -23,6 +23,16 @@ pub struct Job {
     pub id: u32,
     pub cost: u32,
     pub period: u32,
+    /// The deadline that frame 06 gives; none where frame 03 admits the job.
+    pub deadline: Option<u32>,
+}
+
+impl Job {
+    /// The job with its deadline where its period ended, and a period that is a quarter longer. The work stays, and
+    /// with it the plan.
+    pub fn due_early(self) -> Self {
+        Job { period: self.period + self.period / 4, deadline: Some(self.period), ..self }
+    }
 }
 
 #[derive(Clone, Default)]
@@ -46,7 +56,11 @@ impl Draft {
     }
 
     pub fn admit(&mut self, job: Job) {
-        self.line(&format!("03{:04X}{:04X}{:04X}", job.id, job.cost, job.period));
+        let Job { id, cost, period, deadline } = job;
+        match deadline {
+            None => self.line(&format!("03{id:04X}{cost:04X}{period:04X}")),
+            Some(deadline) => self.line(&format!("06{id:04X}{cost:04X}{period:04X}{deadline:04X}")),
+        }
     }
 
     pub fn admit_all(&mut self, jobs: &[Job]) {

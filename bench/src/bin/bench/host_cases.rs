@@ -1,7 +1,7 @@
 //! The cases of the host's call.
 
 use crate::case::Case;
-use crate::draft::{Draft, Machine, LARGE, QUARTERS};
+use crate::draft::{Draft, Job, Machine, LARGE, QUARTERS};
 use crate::lines::Sort;
 use crate::random::Random;
 use crate::rosters::{jobs, small_job, Spread};
@@ -26,6 +26,7 @@ pub fn all(length: usize, random: &mut Random) -> Vec<Case> {
         let sheet = churn(LARGE, held, length, random);
         cases.push(Case::host(format!("churn around {held} held, a full sheet"), vec![sheet]));
     }
+    cases.push(deadlines(random));
     cases
 }
 
@@ -38,6 +39,15 @@ fn plans(random: &mut Random) -> Vec<Case> {
         }
     }
     cases
+}
+
+/// As the row with these raises, but for the frames that admit the jobs.
+fn deadlines(random: &mut Random) -> Case {
+    let sheets = several(random, |random| {
+        let jobs: Vec<Job> = jobs(64, 33, Spread::Different, random).into_iter().map(Job::due_early).collect();
+        roster(LARGE, &jobs)
+    });
+    Case::host("64 jobs on 32, 500 raises, different, deadlines", sheets)
 }
 
 /// The specification's example without the job that it turns down.

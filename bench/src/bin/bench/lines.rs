@@ -3,7 +3,7 @@
 use crate::random::Random;
 
 /// The kinds that are read.
-const KINDS: [u32; 6] = [1, 2, 3, 4, 5, 7];
+const KINDS: [u32; 7] = [1, 2, 3, 4, 5, 6, 7];
 
 #[derive(Clone, Copy)]
 pub enum Sort {
@@ -32,8 +32,8 @@ impl Sort {
 
     /// A malformed line of this sort, without its 0A.
     pub fn line(self, random: &mut Random) -> String {
-        let kind = random.between(1, 4);
-        let length = [6, 4 * random.between(1, 32), 6, 2][kind as usize - 1] as usize;
+        let fours = 4 * random.between(1, 32) as usize;
+        let (kind, length) = random.choose(&[(1, 6), (2, fours), (3, 6), (4, 2), (6, 8)]);
         match self {
             Sort::Empty => String::new(),
             Sort::WrongDigit => {
@@ -48,10 +48,10 @@ impl Sort {
                 line
             }
             Sort::UnknownKind => {
-                let kind = random.choose(&[0, 6, 8, 9, 0x10, 0x13, 0x43, 0x81, 0x8E, 0xFF]);
-                frame(kind, random.index(8), random)
+                let kind = random.choose(&[0, 8, 9, 0x10, 0x13, 0x16, 0x43, 0x81, 0x8E, 0xFF]);
+                frame(kind, random.index(9), random)
             }
-            // Never right for any kind: 01 and 03 have 6 bytes, 02 fours, 04 two, 05 and 07 none.
+            // Never right for any kind: 01 and 03 have 6 bytes, 02 fours, 04 two, 06 eight, 05 and 07 none.
             Sort::WrongLength => frame(random.choose(&KINDS), random.choose(&[1, 3, 5, 7, 9, 11]), random),
             Sort::Long => frame(random.choose(&KINDS), random.between(129, 1000) as usize, random),
         }

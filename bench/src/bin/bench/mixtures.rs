@@ -13,6 +13,8 @@ struct Mixture {
     periods: Vec<u32>,
     /// Costs are drawn up to the period divided by this.
     divisor: u32,
+    /// One job in so many has a deadline of its own.
+    with_deadline: u32,
     /// One line in so many is malformed, a retirement, a plan wanted, its slack wanted, a table, a machine.
     rates: [u32; 6],
 }
@@ -27,6 +29,7 @@ impl Mixture {
             largest_id: random.choose(&[5, 40, 80, 300, 65_535]),
             periods: periods(random),
             divisor: random.choose(&[1, 1, 2, 4, 16, 64, 500]),
+            with_deadline: random.choose(&[1, 2, 10, 1_000_000]),
             rates,
         }
     }
@@ -63,7 +66,7 @@ impl Mixture {
 
     fn job(&self, random: &mut Random) -> Job {
         let period = random.choose(&self.periods);
-        let mut job = Job { id: random.between(1, self.largest_id), cost: 0, period };
+        let mut job = Job { id: random.between(1, self.largest_id), cost: 0, period, deadline: None };
         job.cost = match random.between(1, 40) {
             1 => period.max(1),
             2 => (period + 1).min(65_535),
@@ -71,6 +74,9 @@ impl Mixture {
             4 if random.one_in(4) => 0,
             _ => random.between(1, (period / self.divisor).max(1)),
         };
+        if random.one_in(self.with_deadline) {
+            job = with_deadline(job, random);
+        }
         match random.between(1, 400) {
             1 => job.id = 0,
             2 => job.period = 0,
@@ -79,6 +85,21 @@ impl Mixture {
         }
         job
     }
+}
+
+/// The job with a deadline. Mostly it stands where the period ended, so that the cost is one drawn for it and the
+/// hyperperiod is no longer; the period ends there too or goes on. Now and then it is anywhere in the period, or out of
+/// its range: 0, or one beyond the period.
+fn with_deadline(job: Job, random: &mut Random) -> Job {
+    let end = job.period;
+    let (period, deadline) = match random.between(1, 20) {
+        1 => (end, 0),
+        2 => (end - 1, end),
+        3 => (end, random.between(1, end)),
+        4..=9 => (end, end),
+        _ => (random.between(end, 65_535), end),
+    };
+    Job { period, deadline: Some(deadline), ..job }
 }
 
 fn periods(random: &mut Random) -> Vec<u32> {

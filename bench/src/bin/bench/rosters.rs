@@ -44,7 +44,7 @@ pub fn jobs(count: usize, in_128: u32, spread: Spread, random: &mut Random) -> V
             Spread::Different if place % 2 == 0 => mean + away,
             Spread::Different => mean - away,
         };
-        jobs.push(Job { id, cost, period });
+        jobs.push(Job { id, cost, period, deadline: None });
     }
     random.shuffle(&mut jobs);
     jobs
@@ -53,5 +53,5 @@ pub fn jobs(count: usize, in_128: u32, spread: Spread, random: &mut Random) -> V
 /// A small job, of which any 64 fit on one processor.
 pub fn small_job(id: u32, random: &mut Random) -> Job {
     let period = random.choose(&PERIODS);
-    Job { id, cost: random.between(1, period / 64), period }
+    Job { id, cost: random.between(1, period / 64), period, deadline: None }
 }

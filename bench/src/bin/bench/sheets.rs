@@ -23,10 +23,25 @@ pub fn roster(machine: Machine, jobs: &[Job]) -> Vec<u8> {
 
 /// So many small jobs; then one is retired and another admitted, again and again, and at the end a plan is wanted.
 pub fn churn(machine: Machine, held: usize, length: usize, random: &mut Random) -> Vec<u8> {
+    churn_of(small_job, machine, held, length, random)
+}
+
+/// The same with jobs that are due before their periods end.
+pub fn early_churn(machine: Machine, held: usize, length: usize, random: &mut Random) -> Vec<u8> {
+    churn_of(|id, random| small_job(id, random).due_early(), machine, held, length, random)
+}
+
+fn churn_of(
+    job: impl Fn(u32, &mut Random) -> Job,
+    machine: Machine,
+    held: usize,
+    length: usize,
+    random: &mut Random,
+) -> Vec<u8> {
     let mut draft = Draft::on(machine);
     let mut held = ids(held, random);
     for &id in &held {
-        draft.admit(small_job(id, random));
+        draft.admit(job(id, random));
     }
     let plan = "05\n".len();
     draft.fill(length - plan, |draft| {
@@ -38,7 +53,7 @@ pub fn churn(machine: Machine, held: usize, length: usize, random: &mut Random) 
                 break id;
             }
         };
-        draft.admit(small_job(held[place], random));
+        draft.admit(job(held[place], random));
     });
     draft.plan();
     draft.bytes()

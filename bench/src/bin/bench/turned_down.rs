@@ -54,16 +54,15 @@ impl Reason {
         }
         let period = random.choose(&PERIODS);
         let cost = random.between(1, period / 2);
+        let job = Job { id, cost, period, deadline: None };
         match self {
-            Reason::Numbers => {
-                random.choose(&[Job { id: 0, cost, period }, Job { id, cost: 0, period }, Job { id, cost, period: 0 }])
-            }
-            Reason::IdHeld => Job { id: random.choose(held).id, cost, period },
-            Reason::PlacesFull => Job { id, cost, period },
-            Reason::Hyperperiod => Job { id, cost, period: 2 * random.between(2049, 32_767) + 1 },
+            Reason::Numbers => random.choose(&[Job { id: 0, ..job }, Job { cost: 0, ..job }, Job { period: 0, ..job }]),
+            Reason::IdHeld => Job { id: random.choose(held).id, ..job },
+            Reason::PlacesFull => job,
+            Reason::Hyperperiod => Job { period: 2 * random.between(2049, 32_767) + 1, ..job },
             // Half of them have a cost above their period.
-            Reason::NoPlan if random.one_in(2) => Job { id, cost: period + cost, period },
-            Reason::NoPlan => Job { id, cost: period / 2 + cost, period },
+            Reason::NoPlan if random.one_in(2) => Job { cost: period + cost, ..job },
+            Reason::NoPlan => Job { cost: period / 2 + cost, ..job },
         }
     }
 
@@ -88,7 +87,7 @@ fn powers_of_two(count: usize, random: &mut Random) -> Vec<Job> {
     let mut jobs: Vec<Job> = Vec::new();
     for id in ids(count, random) {
         let period = 1 << random.between(6, 12);
-        jobs.push(Job { id, cost: random.between(1, period / 4), period });
+        jobs.push(Job { id, cost: random.between(1, period / 4), period, deadline: None });
     }
     jobs[0].period = 4096;
     jobs

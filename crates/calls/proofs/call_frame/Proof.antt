@@ -43,20 +43,8 @@ replace-table-requires c κs = search needs
 enum-known-frame-3 : tie.Need-enum-known-frame-3
 enum-known-frame-3 c = search needs
 
-cast-admit : tie.Need-cast-admit
-cast-admit c = search needs
-
-cast-admit-2 : tie.Need-cast-admit-2
-cast-admit-2 c = search needs
-
-cast-admit-3 : tie.Need-cast-admit-3
-cast-admit-3 c = search needs
-
 admit-requires : tie.Need-admit-requires
 admit-requires c κs = search needs
-
-changed-requires-2 : tie.Need-changed-requires-2
-changed-requires-2 c κs = search needs
 
 enum-known-frame-4 : tie.Need-enum-known-frame-4
 enum-known-frame-4 c = search needs
@@ -67,8 +55,8 @@ cast-retire c = search needs
 retire-requires : tie.Need-retire-requires
 retire-requires c κs = search needs
 
-changed-requires-3 : tie.Need-changed-requires-3
-changed-requires-3 c κs = search needs
+changed-requires-2 : tie.Need-changed-requires-2
+changed-requires-2 c κs = search needs
 
 enum-told-2 : tie.Need-enum-told-2
 enum-told-2 c = search needs
@@ -87,6 +75,12 @@ file-slack-requires c κs = search needs
 
 filed-requires-2 : tie.Need-filed-requires-2
 filed-requires-2 c κs = search needs
+
+enum-known-frame-5 : tie.Need-enum-known-frame-5
+enum-known-frame-5 c = search needs
+
+admit-requires-2 : tie.Need-admit-requires-2
+admit-requires-2 c κs = search needs
 
 returns : tie.Need-returns
 unfolding askedBy
@@ -116,11 +110,10 @@ returns-3 c =
 returns-4 : tie.Need-returns-4
 unfolding askedBy
 returns-4 c =
-    let m = c .before in
-    let f = m .before .before in
+    let f = c .before .before in
     let s = f .before .before .before in
-    as-change (s .args .roster) _ (s .args .page .now) (s .args .place) _ _ _ (c .changed2 .ensures) (m .admit .ensures)
-    (ap (λ (q : Frame). askedBy q (s .args .numbers)) (f .frame3 .given .1))
+    c .admit .ensures (s .args .page .now) (s .args .place)
+    ∙ ap (λ (q : Frame). replyAs (s .args .roster) (askedBy q (s .args .numbers)) (s .args .page .now) (s .args .place)) (sym (f .frame3 .given .1))
 
 returns-5 : tie.Need-returns-5
 unfolding askedBy
@@ -128,7 +121,7 @@ returns-5 c =
     let m = c .before in
     let f = m .before .before in
     let s = f .before .before .before in
-    as-change (s .args .roster) _ (s .args .page .now) (s .args .place) _ _ _ (c .changed3 .ensures) (m .retire .ensures)
+    as-change (s .args .roster) _ (s .args .page .now) (s .args .place) _ _ _ (c .changed2 .ensures) (m .retire .ensures)
     (ap (λ (q : Frame). askedBy q (s .args .numbers)) (f .frame4 .given .1))
 
 same-length : tie.Need-same-length
@@ -155,6 +148,14 @@ returns-7 c =
     as-filed (s .args .roster) (askedBy (s .args .frame) (s .args .numbers)) (s .args .page .now) (s .args .place) _ _ _ _ (c .filed2 .ensures) (f .file-slack .ensures)
     (ap (λ (q : Frame). replyAs (s .args .roster) (askedBy q (s .args .numbers)) (s .args .page .now) (s .args .place)) (t .enum-told3 .given .1))
 
+returns-8 : tie.Need-returns-8
+unfolding askedBy
+returns-8 c =
+    let f = c .before .before in
+    let s = f .before .before .before in
+    c .admit2 .ensures (s .args .page .now) (s .args .place)
+    ∙ ap (λ (q : Frame). replyAs (s .args .roster) (askedBy q (s .args .numbers)) (s .args .page .now) (s .args .place)) (sym (f .frame5 .given .1))
+
 pub call-frame-spec : {M : Type 1} → statement M
 call-frame-spec =
     tie.close
@@ -171,21 +172,19 @@ call-frame-spec =
     enum-known-frame-2
     replace-table-requires
     enum-known-frame-3
-    cast-admit
-    cast-admit-2
-    cast-admit-3
     admit-requires
-    changed-requires-2
     enum-known-frame-4
     cast-retire
     retire-requires
-    changed-requires-3
+    changed-requires-2
     enum-told-2
     file-plan-requires
     filed-requires
     enum-told-3
     file-slack-requires
     filed-requires-2
+    enum-known-frame-5
+    admit-requires-2
     returns
     returns-2
     returns-3
@@ -194,4 +193,5 @@ call-frame-spec =
     same-length
     returns-6
     same-length-2
-    returns-7)
+    returns-7
+    returns-8)

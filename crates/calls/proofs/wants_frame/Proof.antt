@@ -27,6 +27,9 @@ enum-told-6 c = search needs
 enum-told-7 : tie.Need-enum-told-7
 enum-told-7 c = search needs
 
+enum-told-8 : tie.Need-enum-told-8
+enum-told-8 c = search needs
+
 returns : tie.Need-returns
 unfolding askedBy wantsFrame
 returns c = λ values. sym (ap (λ (f : Frame). wantsFrame (askedBy f values)) (c .enum-told .given .1))
@@ -55,6 +58,10 @@ returns-7 : tie.Need-returns-7
 unfolding askedBy wantsFrame
 returns-7 c = λ values. sym (ap (λ (f : Frame). wantsFrame (askedBy f values)) (c .enum-told7 .given .1))
 
+returns-8 : tie.Need-returns-8
+unfolding askedBy wantsFrame
+returns-8 c = λ values. sym (ap (λ (f : Frame). wantsFrame (askedBy f values)) (c .enum-told8 .given .1))
+
 pub wants-frame-spec : {M : Type 1} → statement M
 wants-frame-spec =
     tie.close
@@ -66,10 +73,12 @@ wants-frame-spec =
     enum-told-5
     enum-told-6
     enum-told-7
+    enum-told-8
     returns
     returns-2
     returns-3
     returns-4
     returns-5
     returns-6
-    returns-7)
+    returns-7
+    returns-8)

@@ -29,6 +29,9 @@ enum-told-6 c = search needs
 enum-told-7 : tie.Need-enum-told-7
 enum-told-7 c = search needs
 
+enum-told-8 : tie.Need-enum-told-8
+enum-told-8 c = search needs
+
 -- Every other kind is none.
 unread : Frame → Bool
 unread frame.Malformed = true
@@ -38,6 +41,7 @@ unread (frame.Admit id cost period) = false
 unread (frame.Retire id) = false
 unread frame.PlanWanted = false
 unread frame.SlackWanted = false
+unread (frame.AdmitDue id cost period deadline) = false
 
 other : (f : Frame) → false ≡ unread f → (false ≡ true) ↔ (f ≡ frame.Malformed)
 unfolding unread
@@ -70,6 +74,10 @@ returns-7 : tie.Need-returns-7
 unfolding unread
 returns-7 c = other _ (sym (ap unread (c .enum-told7 .given .1)))
 
+returns-8 : tie.Need-returns-8
+unfolding unread
+returns-8 c = other _ (sym (ap unread (c .enum-told8 .given .1)))
+
 pub is-malformed-spec : {M : Type 1} → statement M
 is-malformed-spec =
     tie.close
@@ -81,10 +89,12 @@ is-malformed-spec =
     enum-told-5
     enum-told-6
     enum-told-7
+    enum-told-8
     returns
     returns-2
     returns-3
     returns-4
     returns-5
     returns-6
-    returns-7)
+    returns-7
+    returns-8)

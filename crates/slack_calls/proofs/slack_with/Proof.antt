@@ -30,10 +30,11 @@ begin c = c .before .before .before
 
 added : (c : tie.After-enum-told) →
     let s = begin c in
-    Added (s .args .roster) (entries s) (places s) (s .args .id) (s .args .cost) (s .args .period) (c .before .before .offer .result) (c .before .before .offer .ensures)
+    Added (s .args .roster) (entries s) (places s) (s .args .id) (s .args .cost) (s .args .period) (s .args .deadline)
+    (c .before .before .offer .result) (c .before .before .offer .ensures)
 added c =
     let s = begin c in
-    with-accepted (s .args .roster) (entries s) (places s) _ _ _ _ (c .before .before .offer .ensures) (c .enum-told .given .1)
+    with-accepted (s .args .roster) (entries s) (places s) _ _ _ _ _ (c .before .before .offer .ensures) (c .enum-told .given .1)
 
 sub-highest : tie.Need-sub-highest
 sub-highest c = omega (arith, added (c .before .before .before .before) .one-more .machine-range .levels .0)
@@ -48,20 +49,20 @@ slack-under-requires : tie.Need-slack-under-requires
 slack-under-requires c κs =
     let e = c .before .before .before .before .before in
     let s = begin e in
-    asked (s .args .roster) (entries s) (places s) _ _ _ _ (e .before .before .offer .ensures) (added e)
+    asked (s .args .roster) (entries s) (places s) _ _ _ _ _ (e .before .before .offer .ensures) (added e)
 
 returns : tie.Need-returns
 returns c =
     let k = c .before .before in
     let o = k .before .before in
     let s = o .before in
-    c .no-slack .ensures ∙ with-refused (s .args .roster) (entries s) (places s) _ _ _ _ (o .offer .ensures) _ (k .answer .given .1)
+    c .no-slack .ensures ∙ with-refused (s .args .roster) (entries s) (places s) _ _ _ _ _ (o .offer .ensures) _ (k .answer .given .1)
 
 returns-2 : tie.Need-returns-2
 returns-2 c =
     let e = c .before .before .before .before .before .before in
     let s = begin e in
-    with-it (s .args .roster) (entries s) (places s) _ _ _ _ (e .before .before .offer .ensures) (added e) _ _ (c .slack-under .ensures) refl
+    with-it (s .args .roster) (entries s) (places s) _ _ _ _ _ (e .before .before .offer .ensures) (added e) _ _ (c .slack-under .ensures) refl
 
 pub slack-with-spec : {M : Type 1} → statement M
 slack-with-spec =

@@ -1,7 +1,9 @@
 //! The book of calls: a machine or none, a table, and jobs by rising id. A refused call leaves it as it was.
 
+use super::admission::Offer;
 use super::astray::Astray;
-use super::capacity::{hyperperiod, least_common_multiple, Job, Needs};
+use super::capacity::{cycle_of_periods, hyperperiod, least_common_multiple, Job, Needs};
+use super::deadline_notes;
 use super::frames::{filed, Frame};
 use super::growing::{grow, Grown};
 use super::machine::Machine;
@@ -9,25 +11,29 @@ use super::power;
 use super::refusal::*;
 use super::slack::{self, Slack};
 use crate::facts::{Facts, Mark};
-use std::collections::{BTreeMap, BTreeSet};
+use std::collections::BTreeMap;
 
 pub const MOST_JOBS: usize = 64;
 pub const LONGEST_CYCLE: u128 = 16_777_216;
 
 #[derive(Clone)]
 pub struct Book {
-    astray: Option<Astray>,
-    machine: Option<Machine>,
+    pub(super) astray: Option<Astray>,
+    pub(super) machine: Option<Machine>,
     table: Vec<u32>,
-    jobs: BTreeMap<u32, Job>,
+    pub(super) jobs: BTreeMap<u32, Job>,
     // The rest serves the facts and the wrong planners alone.
     tables: u32,
-    retired: BTreeSet<u32>,
-    was_full: bool,
-    admitted: usize,
-    old_cycle: u128,
-    first_plan: Option<Grown>,
-    earlier: Vec<Job>,
+    /// The job that each id last stood for.
+    pub(super) retired: BTreeMap<u32, Job>,
+    pub(super) was_full: bool,
+    pub(super) admitted: usize,
+    pub(super) old_cycle: u128,
+    /// The least common multiple of the deadlines of the jobs by frame 06 that have gone.
+    left_cycle: u128,
+    pub(super) last_deadline: Option<u32>,
+    pub(super) first_plan: Option<Grown>,
+    pub(super) earlier: Vec<Job>,
 }
 
 impl Book {
@@ -38,10 +44,12 @@ impl Book {
             table: Vec::new(),
             jobs: BTreeMap::new(),
             tables: 0,
-            retired: BTreeSet::new(),
+            retired: BTreeMap::new(),
             was_full: false,
             admitted: 0,
             old_cycle: 1,
+            left_cycle: 1,
+            last_deadline: None,
             first_plan: None,
             earlier: Vec::new(),
         }
@@ -59,21 +67,23 @@ impl Book {
         self.jobs.contains_key(&id)
     }
 
-    fn is(&self, astray: Astray) -> bool {
+    pub(super) fn is(&self, astray: Astray) -> bool {
         self.astray == Some(astray)
     }
 
-    /// A frame 01 to 04; frame 05 is `plan` and frame 07 `slack`.
+    /// A frame 01 to 04, or 06; frame 05 is `plan` and frame 07 `slack`.
     pub fn take(&mut self, frame: &Frame, facts: &mut Facts) -> Result<(), Refusal> {
+        if let Some(job) = frame.job(self.astray) {
+            return self.admit(job, facts);
+        }
         match *frame {
             Frame::Machine { m, l, b, d } => {
                 let machine = Machine { processors: m, levels: l, lowest: b, step: d };
                 self.open(machine, facts)
             }
             Frame::Power(ref values) => self.replace_table(values, facts),
-            Frame::Admit { id, cost, period } => self.admit(Job { id, cost, period }, facts),
             Frame::Retire { id } => self.retire(id, facts),
-            Frame::Plan | Frame::Slack => self.machine.map(|_| ()).ok_or(NO_MACHINE),
+            _ => self.machine.map(|_| ()).ok_or(NO_MACHINE),
         }
     }
 
@@ -114,107 +124,32 @@ impl Book {
         Ok(())
     }
 
-    // 11, 4, 13, 15, 16, 17.
-    fn admit(&mut self, job: Job, facts: &mut Facts) -> Result<(), Refusal> {
-        self.machine_for_job(job.id, job.cost, job.period, facts)?;
-        self.place_for(&job, facts)?;
-        let (jobs, cycle) = self.with(job);
-        if cycle > self.longest_cycle() {
-            return self.refuse_cycle(cycle, &job, &jobs, facts);
-        }
-        match self.grown(&jobs, cycle, facts) {
-            Some(grown) if !self.is(Astray::EveryJobRefused) => {
-                self.enter(job, cycle, grown, facts);
-                Ok(())
-            }
-            _ => {
-                facts.mark_if(job.cost == job.period + 1, Mark::HeaviestMissed);
-                if self.is(Astray::HeavyJobKept) && job.cost <= job.period {
-                    self.jobs.insert(job.id, job);
-                }
-                Err(NO_PLAN)
-            }
-        }
-    }
-
-    /// The jobs with one more, by rising id, and their cycle.
-    fn with(&self, job: Job) -> (Vec<Job>, u128) {
-        let mut jobs = self.jobs();
-        let position = jobs.partition_point(|held| held.id < job.id);
-        jobs.insert(position, job);
-        (jobs, least_common_multiple(self.cycle(), u128::from(job.period)))
-    }
-
-    /// The job goes in by its id.
-    fn enter(&mut self, job: Job, cycle: u128, grown: Grown, facts: &mut Facts) {
-        facts.mark_if(self.retired.contains(&job.id), Mark::Readmitted);
-        facts.mark_if(self.was_full && self.jobs.len() + 1 == MOST_JOBS, Mark::PlaceReused);
-        self.earlier = self.jobs();
-        if !self.is(Astray::StoresNothing) {
-            self.jobs.insert(job.id, job);
-        }
-        self.admitted += 1;
-        self.old_cycle = cycle;
-        self.was_full |= self.jobs.len() == MOST_JOBS;
-        self.first_plan.get_or_insert(grown);
-    }
-
-    // 11, 4: common to frames 03 and 04.
-    fn machine_for_job(&self, id: u32, cost: u32, period: u32, facts: &mut Facts) -> Result<Machine, Refusal> {
-        let in_range = [id, cost, period].iter().all(|number| (1..=65_535).contains(number));
-        let Some(machine) = self.machine else {
-            facts.mark_if(!in_range, Mark::MachineBeforeRange);
-            let range_first = self.is(Astray::RangeBeforeMachine) && !in_range;
-            return Err(if range_first { JOB_NUMBERS } else { NO_MACHINE });
-        };
-        let heavy = self.is(Astray::HeavyCostOutOfRange) && cost > period;
-        if !in_range || heavy {
-            return Err(JOB_NUMBERS);
-        }
-        Ok(machine)
-    }
-
-    // 13, 15.
-    fn place_for(&self, job: &Job, facts: &mut Facts) -> Result<(), Refusal> {
-        let places = MOST_JOBS - usize::from(self.is(Astray::SixtyThreePlaces));
-        let used = if self.is(Astray::PlaceNeverReused) { self.admitted } else { self.jobs.len() };
-        let held = self.holds(job.id);
-        let full = used >= places;
-        facts.mark_if(held && full, Mark::HeldBeforeFull);
-        if full && self.is(Astray::FullBeforeHeld) {
-            return Err(PLACES_FULL);
-        }
-        if held {
-            return Err(ID_HELD);
-        }
-        if full {
-            let cycle = least_common_multiple(self.cycle(), u128::from(job.period));
-            let long = cycle > LONGEST_CYCLE;
-            facts.mark_if(long, Mark::FullBeforeCycle);
-            let cycle_first = long && self.is(Astray::CycleBeforeFull);
-            return Err(if cycle_first { CYCLE_TOO_LONG } else { PLACES_FULL });
-        }
-        Ok(())
-    }
-
-    fn refuse_cycle(&self, cycle: u128, job: &Job, jobs: &[Job], facts: &mut Facts) -> Result<(), Refusal> {
-        facts.mark_if(cycle == LONGEST_CYCLE + 1, Mark::CycleBeyond);
-        facts.mark_if(job.cost > job.period, Mark::CycleBeforeHeavy);
-        if self.is(Astray::HeavyBeforeCycle) && self.grown(jobs, cycle, facts).is_none() {
-            return Err(NO_PLAN);
-        }
-        Err(CYCLE_TOO_LONG)
-    }
-
     // 11, 4, 14.
     fn retire(&mut self, id: u32, facts: &mut Facts) -> Result<(), Refusal> {
-        self.machine_for_job(id, 1, 1, facts)?;
-        self.jobs.remove(&id).ok_or(ID_NOT_HELD)?;
-        self.retired.insert(id);
+        let range_first = self.is(Astray::RangeBeforeMachine) && !in_range(id);
+        if self.machine.is_none() && !range_first {
+            facts.mark_if(!in_range(id), Mark::MachineBeforeRange);
+            return Err(NO_MACHINE);
+        }
+        if !in_range(id) {
+            return Err(JOB_NUMBERS);
+        }
+        let unknown = |job: &&Job| job.by_06 && self.is(Astray::Retired06NotFound);
+        let job = *self.jobs.get(&id).filter(|job| !unknown(job)).ok_or(ID_NOT_HELD)?;
+        let before = self.cycle();
+        self.jobs.remove(&id);
+        self.retired.insert(id, job);
+        if job.by_06 {
+            // Only where the limit on H counts them too do these stay within it.
+            if self.is(Astray::Retired06InCycle) {
+                self.left_cycle = least_common_multiple(self.left_cycle, u128::from(job.deadline));
+            }
+            facts.mark_if(self.cycle() < before, Mark::Retired06Cycle);
+        }
         Ok(())
     }
 
-    fn longest_cycle(&self) -> u128 {
+    pub(super) fn longest_cycle(&self) -> u128 {
         match self.astray {
             Some(Astray::CycleBeyondAccepted) => LONGEST_CYCLE + 1,
             Some(Astray::CycleLimitShort) => LONGEST_CYCLE - 2,
@@ -222,16 +157,20 @@ impl Book {
         }
     }
 
-    fn cycle(&self) -> u128 {
-        if self.is(Astray::OldCycle) {
-            return self.old_cycle;
+    pub(super) fn cycle(&self) -> u128 {
+        match self.astray {
+            Some(Astray::OldCycle) => self.old_cycle,
+            Some(Astray::CycleByPeriods) => cycle_of_periods(&self.jobs()),
+            Some(Astray::Retired06InCycle) => least_common_multiple(hyperperiod(&self.jobs()), self.left_cycle),
+            _ => hyperperiod(&self.jobs()),
         }
-        hyperperiod(&self.jobs())
     }
 
-    fn grown(&self, jobs: &[Job], cycle: u128, facts: &mut Facts) -> Option<Grown> {
+    /// The plan of these jobs. The planner that is named here goes by their periods.
+    pub(super) fn grown(&self, jobs: &[Job], cycle: u128, by_period: Astray, facts: &mut Facts) -> Option<Grown> {
         let machine = self.machine?;
-        let needs = Needs::new(&machine, jobs, cycle, self.astray, facts);
+        let astray = if self.is(by_period) { Some(Astray::WorkByPeriod) } else { self.astray };
+        let needs = Needs::new(&machine, jobs, cycle, astray, facts);
         grow(&machine, &needs, self.astray, facts)
     }
 
@@ -243,6 +182,7 @@ impl Book {
         let grown = self.plan_for(&machine, &jobs, cycle, facts);
         let total = power::total(&grown.levels, &self.table, self.astray);
         note_plan(&machine, jobs.len(), cycle, grown.raises, facts);
+        deadline_notes::note_planned(&jobs, cycle, facts);
         let mut bytes = vec![0x81, jobs.len() as u8];
         bytes.extend((cycle as u32).to_be_bytes());
         bytes.extend(total.to_be_bytes());
@@ -254,7 +194,7 @@ impl Book {
     fn plan_for(&self, machine: &Machine, jobs: &[Job], cycle: u128, facts: &mut Facts) -> Grown {
         match &self.first_plan {
             Some(first) if self.is(Astray::FirstPlanRepeated) => first.clone(),
-            _ => self.grown(jobs, cycle, facts).unwrap_or_else(|| top_plan(machine)),
+            _ => self.grown(jobs, cycle, Astray::PlannedByPeriod, facts).unwrap_or_else(|| top_plan(machine)),
         }
     }
 
@@ -277,7 +217,7 @@ impl Book {
             Some(Astray::SlackOfEarlierPlan) => self.plan_for(&machine, &self.earlier, cycle, facts),
             _ => self.plan_for(&machine, &jobs, cycle, facts),
         };
-        let needs = Needs::new(&machine, &jobs, cycle, self.slack_order(), facts);
+        let needs = Needs::new(&machine, &jobs, cycle, self.slack_works(), facts);
         let mut slacks = slack::of_tests(&machine, &needs, &grown.levels, self.astray);
         if self.is(Astray::SlackTestsLeftOut) {
             slacks.drain(jobs.len().min(slacks.len() - 1)..slacks.len() - 1);
@@ -288,27 +228,29 @@ impl Book {
         Ok(self.written(&slack::frame_bytes(&slacks, self.astray)))
     }
 
-    fn slack_order(&self) -> Option<Astray> {
-        if self.is(Astray::SlackByCost) {
-            Some(Astray::OrderByCost)
-        } else {
-            self.astray
+    /// The way in which the works of the slack alone are wrong.
+    fn slack_works(&self) -> Option<Astray> {
+        match self.astray {
+            Some(Astray::SlackByCost) => Some(Astray::OrderByCost),
+            Some(Astray::SlackByPeriod) => Some(Astray::WorkByPeriod),
+            astray => astray,
         }
     }
 
     /// The library call for a job not yet held: 11, 4, 13, 15, 16, else the slack of tests 1 to m with the job added and every
     /// core at top speed.
     pub fn slack_with(&self, job: Job, facts: &mut Facts) -> Result<Vec<Slack>, Refusal> {
-        let machine = self.machine_for_job(job.id, job.cost, job.period, facts)?;
-        let place = self.place_for(&job, facts);
-        match (place, self.astray) {
-            (Err(ID_HELD), Some(Astray::HeldAccepted)) | (Err(PLACES_FULL), Some(Astray::FullAccepted)) => (),
-            _ => place?,
+        let job = match self.astray {
+            Some(Astray::AskedByPeriod) => job.with_whole_period(),
+            _ => self.as_taken(job),
+        };
+        let offer = self.offer(job);
+        if let Some(condition) = self.first_against(&offer, true, facts) {
+            self.note_turned_down(condition, &offer, facts);
+            return Err(self.number_of(condition, &job));
         }
-        let (mut jobs, mut cycle) = self.with(job);
-        if cycle > self.longest_cycle() && !self.is(Astray::CycleAccepted) {
-            return self.refuse_cycle(cycle, &job, &jobs, facts).map(|()| Vec::new());
-        }
+        let machine = self.machine.ok_or(NO_MACHINE)?;
+        let Offer { mut jobs, mut cycle, .. } = offer;
         let mut levels = top_plan(&machine).levels;
         match self.astray {
             Some(Astray::AskedWithoutJob) => (jobs, cycle) = (self.jobs(), self.cycle()),
@@ -316,9 +258,10 @@ impl Book {
             Some(Astray::AskedAtGrownPlan) => levels = self.plan_for(&machine, &jobs, cycle, facts).levels,
             _ => (),
         }
-        let needs = Needs::new(&machine, &jobs, cycle, self.slack_order(), facts);
+        let needs = Needs::new(&machine, &jobs, cycle, self.slack_works(), facts);
         facts.mark_if(cycle == LONGEST_CYCLE - 1, Mark::AskedLongestCycle);
         facts.mark_if(self.cycle() < cycle, Mark::AskedCycleGrows);
+        facts.mark_if(!job.by_06 && jobs.iter().any(Job::is_early), Mark::AskedAmongEarly);
         Ok(slack::of_tests(&machine, &needs, &levels, self.astray))
     }
 
@@ -336,6 +279,11 @@ impl Book {
     pub fn keep(&mut self, job: Job) {
         self.jobs.insert(job.id, job);
     }
+}
+
+/// Of an id, a cost or a period.
+pub(super) fn in_range(number: u32) -> bool {
+    (1..=65_535).contains(&number)
 }
 
 // Even a wrong planner needs numbers with which it can go on.

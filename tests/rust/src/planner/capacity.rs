@@ -10,6 +10,22 @@ pub struct Job {
     pub id: u32,
     pub cost: u32,
     pub period: u32,
+    /// In ticks from the period's beginning. The period's length has no effect beside it (request 2026-04).
+    pub deadline: u32,
+    /// Whether frame 06 stated the deadline. Only the facts and the wrong planners look at it.
+    pub by_06: bool,
+}
+
+impl Job {
+    /// Whether the deadline lies before the period's end.
+    pub fn is_early(&self) -> bool {
+        self.deadline < self.period
+    }
+
+    /// The same job with the period's end as its deadline.
+    pub fn with_whole_period(self) -> Self {
+        Job { deadline: self.period, ..self }
+    }
 }
 
 fn greatest_common_divisor(a: u128, b: u128) -> u128 {
@@ -24,15 +40,29 @@ pub fn least_common_multiple(a: u128, b: u128) -> u128 {
     a / greatest_common_divisor(a, b) * b
 }
 
-/// H: the least common multiple of the periods, 1 without a job.
+/// H: the least common multiple of the deadlines, 1 without a job.
 pub fn hyperperiod(jobs: &[Job]) -> u128 {
-    jobs.iter().fold(1, |cycle, job| least_common_multiple(cycle, u128::from(job.period)))
+    jobs.iter().fold(1, |cycle, job| least_common_multiple(cycle, u128::from(job.deadline)))
 }
 
-/// One side of the tests: the jobs' needs from the largest, each Q x C x (H / T), and H.
+/// A cycle that is not kept within its limit is followed no further than this.
+pub const LONGEST_FOLLOWED: u128 = 1 << 40;
+
+/// The least common multiple of the periods, on which there is no limit.
+pub fn cycle_of_periods(jobs: &[Job]) -> u128 {
+    let next = |cycle: u128, job: &Job| match cycle {
+        0..LONGEST_FOLLOWED => least_common_multiple(cycle, u128::from(job.period)),
+        _ => cycle,
+    };
+    jobs.iter().fold(1, next)
+}
+
+/// One side of the tests: the jobs' needs from the largest, each Q x C x (H / D), and H.
 pub struct Needs {
     pub cycle: u128,
     pub sorted: Vec<u128>,
+    /// Whether a job has a deadline before its period's end, for the facts.
+    pub early: bool,
 }
 
 impl Needs {
@@ -40,20 +70,20 @@ impl Needs {
         let mut sorted = jobs.to_vec();
         match astray {
             Some(Astray::OrderByCost) => sorted.sort_by_key(|job| std::cmp::Reverse(job.cost)),
+            Some(Astray::OrderByPeriod) => {
+                sorted.sort_by(|a, b| heavier_first(&a.with_whole_period(), &b.with_whole_period()))
+            }
             _ => sorted.sort_by(heavier_first),
         }
-        let equal =
-            |pair: &[Job]| compare_utilisation(&pair[0], &pair[1]) == Ordering::Equal && pair[0].cost != pair[1].cost;
-        facts.mark_if(sorted.windows(2).any(equal), Mark::EqualWorks);
+        note_order(&sorted, facts);
         let need = |job: &Job| {
-            let work = u128::from(job.cost) * (cycle / u128::from(job.period));
-            let need = u128::from(machine.top()) * work;
+            let need = u128::from(machine.top()) * work(job, cycle, astray);
             match astray {
                 Some(Astray::RoundedUp) => rounded_up(machine, cycle, need),
                 _ => need,
             }
         };
-        Needs { cycle, sorted: sorted.iter().map(need).collect() }
+        Needs { cycle, sorted: sorted.iter().map(need).collect(), early: jobs.iter().any(Job::is_early) }
     }
 
     /// The left side of test i: the min(i, n) largest for i below m, all of them for i = m.
@@ -64,16 +94,44 @@ impl Needs {
     }
 }
 
-/// C over T, compared exactly by cross multiplication.
-fn compare_utilisation(a: &Job, b: &Job) -> Ordering {
-    let left = u128::from(a.cost) * u128::from(b.period);
-    let right = u128::from(b.cost) * u128::from(a.period);
+/// C x (H / D). Only a wrong planner comes here with a deadline of 0, or with one that does not divide the cycle.
+fn work(job: &Job, cycle: u128, astray: Option<Astray>) -> u128 {
+    let (cost, period) = (u128::from(job.cost), u128::from(job.period.max(1)));
+    match astray {
+        Some(Astray::WorkByPeriod) => cost * (cycle / period),
+        Some(Astray::GapAddedToCost) => (cost + u128::from(job.period.saturating_sub(job.deadline))) * (cycle / period),
+        _ => cost * (cycle / u128::from(job.deadline.max(1))),
+    }
+}
+
+/// C over D, compared exactly by cross multiplication.
+pub fn compare_density(a: &Job, b: &Job) -> Ordering {
+    let left = u128::from(a.cost) * u128::from(b.deadline);
+    let right = u128::from(b.cost) * u128::from(a.deadline);
     left.cmp(&right)
+}
+
+/// C over T, which decides nothing any more.
+pub fn compare_by_period(a: &Job, b: &Job) -> Ordering {
+    compare_density(&a.with_whole_period(), &b.with_whole_period())
+}
+
+// The facts of jobs in the order of their works.
+fn note_order(sorted: &[Job], facts: &mut Facts) {
+    for pair in sorted.windows(2) {
+        let equal = compare_density(&pair[0], &pair[1]) == Ordering::Equal;
+        let by_period = compare_by_period(&pair[0], &pair[1]);
+        let other_cost = pair[0].cost != pair[1].cost;
+        facts.mark_if(equal && other_cost, Mark::EqualWorks);
+        facts.mark_if(equal && other_cost && by_period != Ordering::Equal, Mark::EqualByDeadline);
+        facts.mark_if(!equal && by_period == Ordering::Equal, Mark::EqualByPeriod);
+        facts.mark_if(!equal && by_period == Ordering::Less, Mark::OrderNotByPeriod);
+    }
 }
 
 // Ties: the lower id first. Equal works may stand in either order; a fixed one keeps runs alike.
 fn heavier_first(a: &Job, b: &Job) -> Ordering {
-    compare_utilisation(b, a).then(a.id.cmp(&b.id))
+    compare_density(b, a).then(a.id.cmp(&b.id))
 }
 
 fn rounded_up(machine: &Machine, cycle: u128, need: u128) -> u128 {

@@ -57,11 +57,13 @@ fn note_order(before: &[u8], line: &Line, accepted: bool, facts: &mut Facts) {
     if line.text == b"07" {
         facts.mark_if(!accepted && line.closed, Mark::SlackNoMachine);
         facts.mark_if(accepted && before.starts_with(b"03"), Mark::SlackAfterAdmission);
+        facts.mark_if(accepted && before.starts_with(b"06"), Mark::SlackAfterDeadline);
         facts.mark_if(accepted && before.starts_with(b"04"), Mark::SlackAfterRetirement);
         facts.mark_if(accepted && before == b"05", Mark::SlackAfterPlan);
         facts.mark_if(accepted && before == b"07", Mark::SlackTwice);
     }
     facts.mark_if(accepted && line.text == b"05" && before == b"07", Mark::PlanAfterSlack);
+    facts.mark_if(accepted && line.text == b"05" && before.starts_with(b"06"), Mark::PlanAfterDeadline);
 }
 
 // The facts of a whole sheet.
@@ -77,7 +79,7 @@ fn note_after(refused: &[u32; 18], sheets: &mut [u64; 18]) {
     }
 }
 
-// What one line prints if it is not refused: nothing for 01 to 04, the plan for 05, its slack for 07.
+// What one line prints if it is not refused: nothing for 01 to 04 and for 06, the plan for 05, its slack for 07.
 fn reply(book: &mut Book, line: &Line, astray: Option<Astray>, facts: &mut Facts) -> Result<Vec<u8>, Refusal> {
     let frame = frame_of(line, astray, facts).ok_or(MALFORMED)?;
     match frame {
@@ -94,7 +96,10 @@ fn reply(book: &mut Book, line: &Line, astray: Option<Astray>, facts: &mut Facts
     }
     book.take(&frame, facts)?;
     note_accepted(line, facts);
-    Ok(Vec::new())
+    match frame {
+        Frame::AdmitWithDeadline { .. } if astray == Some(Astray::Kind06Printed) => book.plan(facts),
+        _ => Ok(Vec::new()),
+    }
 }
 
 pub fn too_long(sheet: &[u8], astray: Option<Astray>) -> bool {

@@ -1,19 +1,75 @@
 //! Lines of hexadecimal and the frames in them.
 
 use super::astray::Astray;
+use super::capacity::Job;
 use crate::facts::{Facts, Mark, LENGTHS};
 
 pub enum Frame {
-    Machine { m: u32, l: u32, b: u32, d: u32 },
+    Machine {
+        m: u32,
+        l: u32,
+        b: u32,
+        d: u32,
+    },
     Power(Vec<u32>),
-    Admit { id: u32, cost: u32, period: u32 },
-    Retire { id: u32 },
+    /// Frame 03, whose deadline is the period's end.
+    Admit {
+        id: u32,
+        cost: u32,
+        period: u32,
+    },
+    /// Frame 06.
+    AdmitWithDeadline {
+        id: u32,
+        cost: u32,
+        period: u32,
+        deadline: u32,
+    },
+    Retire {
+        id: u32,
+    },
     Plan,
     Slack,
 }
 
 /// The kinds that are read.
-pub const KINDS: [u8; 6] = [1, 2, 3, 4, 5, 7];
+pub const KINDS: [u8; 7] = [1, 2, 3, 4, 5, 6, 7];
+
+impl Frame {
+    /// The job of an admission.
+    pub fn job(&self, astray: Option<Astray>) -> Option<Job> {
+        match *self {
+            Frame::Admit { id, cost, period } => {
+                let deadline = match astray {
+                    Some(Astray::PlainDeadlineZero) => 0,
+                    Some(Astray::PlainDeadlineCost) => cost,
+                    _ => period,
+                };
+                Some(Job { id, cost, period, deadline, by_06: false })
+            }
+            Frame::AdmitWithDeadline { id, cost, period, deadline } => {
+                Some(misread(Job { id, cost, period, deadline, by_06: true }, astray))
+            }
+            _ => None,
+        }
+    }
+}
+
+/// The job of frame 06, which a wrong planner takes for another one.
+fn misread(job: Job, astray: Option<Astray>) -> Job {
+    let Job { cost, period, deadline, .. } = job;
+    match astray {
+        Some(Astray::Kind06AsKind03) => Job { deadline: period, ..job },
+        Some(Astray::DeadlineBeforePeriod) => Job { period: deadline, deadline: period, ..job },
+        Some(Astray::DeadlineBeforeCost) => Job { cost: deadline, deadline: cost, ..job },
+        Some(Astray::DeadlineCut8) => Job { deadline: deadline % 256, ..job },
+        Some(Astray::DeadlineLowByteFirst) => Job { deadline: u32::from((deadline as u16).swap_bytes()), ..job },
+        Some(Astray::DeadlineCutToPeriod) => Job { deadline: deadline.min(period), ..job },
+        Some(Astray::DeadlineZeroAsPeriod) if deadline == 0 => Job { deadline: period, ..job },
+        Some(Astray::DeadlineZeroAsOne) if deadline == 0 => Job { deadline: 1, ..job },
+        _ => job,
+    }
+}
 
 pub struct Line<'a> {
     pub text: &'a [u8],
@@ -50,6 +106,7 @@ pub fn frame_of(line: &Line, astray: Option<Astray>, facts: &mut Facts) -> Optio
     if !line.closed {
         facts.mark(Mark::LineUnclosed);
         facts.mark_if(line.text == b"07", Mark::SlackUnclosed);
+        facts.mark_if(line.text.starts_with(b"06") && line.text.len() == 18, Mark::DeadlineUnclosed);
         if astray != Some(Astray::UnclosedAccepted) {
             return None;
         }
@@ -63,6 +120,12 @@ pub fn frame_of(line: &Line, astray: Option<Astray>, facts: &mut Facts) -> Optio
     let frame = match astray {
         Some(Astray::SlackLineMalformed) if kind == 0x07 => None,
         Some(Astray::SlackLineLonger) if kind == 0x07 => Some(Frame::Slack),
+        Some(Astray::Kind06Unknown) if kind == 0x06 => None,
+        // The period's end stands in for a deadline that is missing; what comes too much is passed over.
+        Some(Astray::Kind06Shorter) if kind == 0x06 && rest.len() == 6 => frame_of_bytes(0x03, rest),
+        Some(Astray::Kind06Longer) if kind == 0x06 && rest.len() > 8 => frame_of_bytes(kind, &rest[..8]),
+        Some(Astray::Kind03Longer) if kind == 0x03 && rest.len() == 8 => frame_of_bytes(kind, &rest[..6]),
+        Some(Astray::Kind03AsKind06) if kind == 0x03 && rest.len() == 8 => frame_of_bytes(0x06, rest),
         _ => frame_of_bytes(kind, rest),
     };
     note_shape(kind, rest.len(), frame.is_some(), facts);
@@ -115,6 +178,12 @@ fn frame_of_bytes(kind: u8, rest: &[u8]) -> Option<Frame> {
         }
         (0x04, 2) => Some(Frame::Retire { id: number(rest) }),
         (0x05, 0) => Some(Frame::Plan),
+        (0x06, 8) => Some(Frame::AdmitWithDeadline {
+            id: number(&rest[0..2]),
+            cost: number(&rest[2..4]),
+            period: number(&rest[4..6]),
+            deadline: number(&rest[6..8]),
+        }),
         (0x07, 0) => Some(Frame::Slack),
         _ => None,
     }

@@ -27,7 +27,7 @@ pub fn grow(machine: &Machine, needs: &Needs, astray: Option<Astray>, facts: &mu
         let before = raises;
         let mut given = offered(machine, &levels[..i], needs.cycle);
         while fails(need, given, astray) {
-            note_missed(machine, need, given, &levels[..i], facts);
+            note_missed(machine, need, given, &levels[..i], needs.early, facts);
             raise_slowest(machine, &mut levels[..i], astray)?;
             raises += 1;
             given += needs.cycle * u128::from(machine.step);
@@ -35,10 +35,16 @@ pub fn grow(machine: &Machine, needs: &Needs, astray: Option<Astray>, facts: &mu
         if astray == Some(Astray::OneRaiseMore) && raises > before {
             raises += u32::from(raise_slowest(machine, &mut levels[..i], astray).is_some());
         }
-        note_met(given.saturating_sub(need), raises > before, i, m, facts);
+        let spare = given.saturating_sub(need);
+        note_met(spare, raises > before, i, m, facts);
+        if needs.early && spare == 0 && raises > before {
+            facts.mark(if i == m { Mark::EarlyMetWhole } else { Mark::EarlyMet });
+        }
     }
     let most = needs.cycle * u128::from(machine.top()) * m as u128;
-    facts.mark_if(needs.of_test(m, m, None) == most, Mark::FullLoad);
+    let full = needs.of_test(m, m, None) == most;
+    facts.mark_if(full, Mark::FullLoad);
+    facts.mark_if(full && needs.early, Mark::EarlyFullLoad);
     raises += u32::from(astray == Some(Astray::RaisesOffByOne));
     Some(Grown { levels, raises })
 }
@@ -62,15 +68,17 @@ fn note_met(spare: u128, raised: bool, i: usize, m: usize, facts: &mut Facts) {
 }
 
 // The facts of a test missed. At the top it is missed by at least one tick of work, which is Q in the test's own units.
-fn note_missed(machine: &Machine, need: u128, given: u128, levels: &[u32], facts: &mut Facts) {
+fn note_missed(machine: &Machine, need: u128, given: u128, levels: &[u32], early: bool, facts: &mut Facts) {
     let whole = levels.len() == machine.processors as usize;
     if need == given + 1 {
         facts.missed_at[levels.len()] += u64::from(!whole);
         facts.mark(if whole { Mark::MissedByOneWhole } else { Mark::MissedByOne });
+        facts.mark_if(early, if whole { Mark::EarlyMissedWhole } else { Mark::EarlyMissed });
     }
     if whole && need == given + u128::from(machine.top()) {
         let at_top = levels.iter().all(|&level| level + 1 == machine.levels);
         facts.mark_if(at_top, Mark::FullLoadMissed);
+        facts.mark_if(at_top && early, Mark::EarlyFullLoadMissed);
     }
 }
 

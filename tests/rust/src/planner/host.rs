@@ -28,6 +28,8 @@ pub fn outcome(sheet: &[u8], astray: Option<Astray>, facts: &mut Facts) -> Outco
     for (line, number) in lines(sheet, astray).iter().zip(1u32..) {
         let taken = match frame_of(line, astray, facts) {
             None => Err(MALFORMED),
+            Some(Frame::AdmitWithDeadline { .. }) if astray == Some(Astray::Kind06UnknownToHost) => Err(MALFORMED),
+            Some(Frame::AdmitWithDeadline { .. }) if astray == Some(Astray::Kind06PassedOver) => Ok(()),
             Some(Frame::Plan) if astray != Some(Astray::PlanLineRefused) => {
                 facts.mark_if(book.machine().is_none(), Mark::PlanPassedOver);
                 Ok(())

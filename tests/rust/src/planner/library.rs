@@ -3,7 +3,7 @@
 use super::astray::Astray;
 use super::book::Book;
 use super::capacity::Job;
-use super::frames::{frame_of, lines, Frame};
+use super::frames::{frame_of, lines};
 use super::refusal::{Refusal, NO_PLAN};
 use super::slack::Slack;
 use crate::facts::{Facts, Mark};
@@ -13,7 +13,7 @@ const ENTRIES: usize = 32;
 
 type Asked = Result<[Slack; ENTRIES], Refusal>;
 
-/// All that the trial program prints for this sheet: a line for every well-formed frame 03.
+/// All that the trial program prints for this sheet: a line for every well-formed frame 03 or 06.
 pub fn printed(sheet: &[u8], astray: Option<Astray>, facts: &mut Facts) -> Vec<u8> {
     let mut book = Book::new(astray);
     let mut output = Vec::new();
@@ -21,11 +21,10 @@ pub fn printed(sheet: &[u8], astray: Option<Astray>, facts: &mut Facts) -> Vec<u
         let Some(frame) = frame_of(&line, astray, facts) else {
             continue;
         };
-        let Frame::Admit { id, cost, period } = frame else {
+        let Some(job) = frame.job(astray) else {
             let _ = book.take(&frame, facts);
             continue;
         };
-        let job = Job { id, cost, period };
         let asked = ask(&book, job, astray, facts);
         facts.asked[usize::from(asked.as_ref().err().copied().unwrap_or(0))] += 1;
         output.extend(text(&asked, astray).into_bytes());
@@ -98,4 +97,22 @@ fn note_asked(book: &Book, job: &Job, slacks: &[Slack], facts: &mut Facts) {
     facts.mark_if(slacks.len() == 32, Mark::AskedMostProcessors);
     facts.mark_if(top == 256, Mark::AskedTopMost);
     facts.mark_if(top == 1, Mark::AskedTopLeast);
+    facts.mark_if(job.by_06 && !job.is_early(), Mark::AskedPeriodEnd);
+    if job.is_early() {
+        note_early(book, job, slacks, facts);
+    }
+}
+
+/// The facts of a job with a deadline before its period's end.
+fn note_early(book: &Book, job: &Job, slacks: &[Slack], facts: &mut Facts) {
+    let (whole, first) = slacks.split_last().expect("a machine has a processor");
+    let heavy = job.cost > job.deadline;
+    let short = slacks.iter().any(|slack| slack.ticks < 0);
+    facts.mark(Mark::AskedEarly);
+    facts.mark_if(first.iter().any(|slack| slack.ticks == 0), Mark::AskedEarlyExact);
+    facts.mark_if(whole.ticks == 0, Mark::AskedEarlyExactWhole);
+    facts.mark_if(first.iter().any(|slack| slack.ticks == -1), Mark::AskedEarlyMissed);
+    facts.mark_if(whole.ticks == -1, Mark::AskedEarlyMissedWhole);
+    facts.mark_if(heavy && job.cost <= job.period, Mark::AskedEarlyHeavy);
+    facts.mark_if(short && !heavy && book.fits(&job.with_whole_period()), Mark::AskedFitsByPeriod);
 }

@@ -5,7 +5,7 @@ use super::astray::Astray;
 use super::capacity::{hyperperiod, Job};
 use std::cmp::Reverse;
 
-/// A job with its work C x (H / T), where H is the least common multiple of the periods of all jobs held.
+/// A job with its work C x (H / D), where H is the least common multiple of the deadlines of all jobs held.
 #[derive(Clone, Copy)]
 pub struct Worked {
     pub work: u64,
@@ -14,7 +14,7 @@ pub struct Worked {
 
 pub fn worked(jobs: &[Job]) -> Vec<Worked> {
     let cycle = hyperperiod(jobs) as u64;
-    let work = |job: &Job| u64::from(job.cost) * (cycle / u64::from(job.period));
+    let work = |job: &Job| u64::from(job.cost) * (cycle / u64::from(job.deadline));
     jobs.iter().map(|&job| Worked { work: work(&job), job }).collect()
 }
 
@@ -37,10 +37,12 @@ fn ids_of(list: &[Worked]) -> Vec<u32> {
 
 /// The orders that sort by something else: by a first number from the smallest, and among equals by a second one.
 fn wrong_key(jobs: &[Job], astray: Astray) -> Option<Vec<u32>> {
-    let longest = jobs.iter().map(|job| i64::from(job.period)).max().unwrap_or(1);
+    let longest = jobs.iter().map(|job| i64::from(job.deadline)).max().unwrap_or(1);
     let key = |one: &Worked| {
         let work = one.work as i64;
-        let (id, cost, period) = (i64::from(one.job.id), i64::from(one.job.cost), i64::from(one.job.period));
+        let (id, cost) = (i64::from(one.job.id), i64::from(one.job.cost));
+        let (period, deadline) = (i64::from(one.job.period), i64::from(one.job.deadline));
+        let by_06 = i64::from(one.job.by_06);
         let key = match astray {
             Astray::TurnsHigherIdFirst => (-work, -id),
             Astray::TurnsByCost => (-cost, id),
@@ -50,15 +52,26 @@ fn wrong_key(jobs: &[Job], astray: Astray) -> Option<Vec<u32>> {
             // The sort leaves jobs with the same key as they stand.
             Astray::TurnsByAdmission => (-work, 0),
             Astray::TurnsByProduct => (-(cost * period), id),
-            Astray::TurnsByPercent => (-((cost * 100 + period / 2) / period), id),
-            Astray::TurnsBy65536ths => (-(cost * 65_536 / period), id),
-            Astray::TurnsByWholes => (-(cost / period), id),
+            Astray::TurnsByPercent => (-((cost * 100 + deadline / 2) / deadline), id),
+            Astray::TurnsBy65536ths => (-(cost * 65_536 / deadline), id),
+            Astray::TurnsByWholes => (-(cost / deadline), id),
             Astray::TurnsWorkCut => (-(work % 65_536), id),
-            Astray::TurnsOtherCycle => (-(cost * (longest / period)), id),
+            Astray::TurnsOtherCycle => (-(cost * (longest / deadline)), id),
             Astray::TurnsLowerCostFirst => (-work, cost * 65_536 + id),
             Astray::TurnsHigherCostFirst => (-work, id - cost * 65_536),
             Astray::TurnsSignedIds => (-work, i64::from(id as i16)),
             Astray::TurnsLowByteFirst => (-work, i64::from((id as u16).swap_bytes())),
+            // Two ratios of numbers of 16 bits that differ at all do so in their first 40 bits.
+            Astray::TurnsByPeriodShare => (-((cost << 40) / period), id),
+            Astray::TurnsByDeadline => (deadline, id),
+            Astray::TurnsByDeadlineProduct => (-(cost * deadline), id),
+            Astray::TurnsEarlierFirst => (-work, deadline * 65_536 + id),
+            Astray::TurnsLaterFirst => (-work, id - deadline * 65_536),
+            Astray::TurnsShorterFirst => (-work, period * 65_536 + id),
+            Astray::TurnsLongerFirst => (-work, id - period * 65_536),
+            Astray::TurnsBy03First => (-work, by_06 * 65_536 + id),
+            Astray::TurnsBy06First => (-work, id - by_06 * 65_536),
+            Astray::TurnsBy06Last => (by_06 * (1 << 50) - work, id),
             _ => return None,
         };
         Some(key)
@@ -81,7 +94,8 @@ fn wrong_list(jobs: &[Job], astray: Astray) -> Option<Vec<u32>> {
         Astray::TurnsFirstAgain => list.extend(list.first().copied()),
         Astray::TurnsLastAgain => list.extend(list.last().copied()),
         Astray::TurnsRisingIds => list = with_rising_ids(&list),
-        Astray::TurnsFullLeftOut => list.retain(|one| one.job.cost != one.job.period),
+        Astray::TurnsFullLeftOut => list.retain(|one| one.job.cost != one.job.deadline),
+        Astray::TurnsBy06LeftOut => list.retain(|one| !one.job.by_06),
         Astray::TurnsSixtyThree => list.truncate(63),
         _ => return None,
     }

@@ -24,5 +24,9 @@ pub const OF_A_LINE: [Refusal; 12] = [1, 2, 3, 4, 5, 11, 12, 13, 14, 15, 16, 17]
 /// Every number that the library call can meet: those of an admission, and never 17.
 pub const OF_THE_CALL: [Refusal; 5] = [11, 4, 13, 15, 16];
 
+/// Every two numbers of an admission that can hold at once, the one that is given first.
+pub const TWO_AT_ONCE: [(Refusal, Refusal); 11] =
+    [(11, 4), (4, 13), (4, 15), (4, 16), (4, 17), (13, 15), (13, 16), (13, 17), (15, 16), (15, 17), (16, 17)];
+
 /// Every number that an import can meet, in their order.
 pub const OF_AN_IMPORT: [Refusal; 5] = [1, 18, 19, 2, 6];

@@ -82,6 +82,7 @@ pub fn note_filed(machine: &Machine, jobs: usize, needs: &Needs, slacks: &[Slack
     facts.mark_if(jobs > m, Mark::SlackManyJobs);
     facts.mark_if(jobs == 64, Mark::SlackHeld64);
     facts.mark_if(needs.cycle == 16_777_215, Mark::SlackLongestCycle);
+    facts.mark_if(needs.early, Mark::SlackEarly);
     for (i, slack) in (1..).zip(slacks) {
         let whole = i == m;
         facts.remainders[slack.remainder as usize] += 1;
@@ -92,6 +93,7 @@ pub fn note_filed(machine: &Machine, jobs: usize, needs: &Needs, slacks: &[Slack
             (0, 0) => {
                 facts.exact_at[i] += u64::from(!whole);
                 facts.mark(if whole { Mark::SlackNoneWhole } else { Mark::SlackNone });
+                facts.mark_if(needs.early, if whole { Mark::SlackEarlyNoneWhole } else { Mark::SlackEarlyNone });
             }
             (0, remainder) if remainder == most => facts.mark(Mark::SlackTickMissed),
             (1, 0) => facts.mark(Mark::SlackTickMet),

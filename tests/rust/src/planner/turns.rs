@@ -43,7 +43,7 @@ fn held(sheet: &[u8], astray: Option<Astray>, facts: &mut Facts) -> Vec<Job> {
         last_refused = taken.is_err();
         match (taken, frame) {
             (Err(refusal), _) => refused[usize::from(refusal)] = true,
-            (_, Some(Frame::Admit { id, .. })) => {
+            (_, Some(Frame::Admit { id, .. } | Frame::AdmitWithDeadline { id, .. })) => {
                 admitted.push(id);
                 admitted_after = refused;
             }

@@ -1,9 +1,10 @@
 //! What the rosters whose jobs are taken in turn really met.
 
 use super::book::{LONGEST_CYCLE, MOST_JOBS};
-use super::capacity::{hyperperiod, Job};
+use super::capacity::{compare_by_period, hyperperiod, Job};
 use super::orders::{in_turn, worked, Worked};
 use crate::facts::{Facts, Mark};
+use std::cmp::Ordering;
 use std::collections::BTreeSet;
 
 /// The jobs held at the end of a sheet, in the order of their admission.
@@ -23,6 +24,25 @@ pub fn note_held(jobs: &[Job], facts: &mut Facts) {
     }
     facts.mark_if(lower_id_later(&worked(jobs)), Mark::TieLowerIdLater);
     note_larger_costs(&list, facts);
+    note_periods(&list, facts);
+}
+
+// Where the order, or a tie, would be another one by the periods.
+fn note_periods(list: &[Worked], facts: &mut Facts) {
+    for pair in list.windows(2) {
+        let tie = pair[0].work == pair[1].work;
+        let (one, next) = (&pair[0].job, &pair[1].job);
+        let by_period = compare_by_period(one, next);
+        facts.mark_if(tie && by_period != Ordering::Equal, Mark::TieByDeadline);
+        facts.mark_if(!tie && by_period == Ordering::Equal, Mark::TieByPeriod);
+        facts.mark_if(!tie && by_period == Ordering::Less, Mark::TurnsNotByPeriod);
+        facts.mark_if(tie && one.deadline > next.deadline, Mark::TieLaterFirst);
+        facts.mark_if(tie && one.deadline < next.deadline, Mark::TieEarlierFirst);
+        facts.mark_if(tie && one.period > next.period, Mark::TieLongerFirst);
+        facts.mark_if(tie && one.period < next.period, Mark::TieShorterFirst);
+        facts.mark_if(tie && !one.by_06 && next.by_06, Mark::TieBy03First);
+        facts.mark_if(tie && one.by_06 && !next.by_06, Mark::TieBy06First);
+    }
 }
 
 fn note_tie(tie: &[Worked], list: &[Worked], facts: &mut Facts) {
@@ -33,7 +53,7 @@ fn note_tie(tie: &[Worked], list: &[Worked], facts: &mut Facts) {
     facts.mark_if(tie.len() > 2 && costs.len() == tie.len(), Mark::TieOfMoreCosts);
     facts.mark_if(tie.len() < list.len() && tie[0].work == list[0].work, Mark::TieFirst);
     facts.mark_if(tie.len() < list.len() && tie[0].work == list[list.len() - 1].work, Mark::TieLast);
-    facts.mark_if(costs.len() > 1 && tie[0].job.cost == tie[0].job.period, Mark::TieFull);
+    facts.mark_if(costs.len() > 1 && tie[0].job.cost == tie[0].job.deadline, Mark::TieFull);
     facts.mark_if(tie.len() == MOST_JOBS, Mark::TieAll64);
     facts.mark_if(tie.len() == MOST_JOBS && costs.len() > 1, Mark::TieAll64Costs);
     let between = |one: &Worked| one.work > tie[0].work && lowest < one.job.id && one.job.id < highest;

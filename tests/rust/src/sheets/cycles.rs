@@ -1,6 +1,6 @@
 //! Hyperperiods at the limit 16,777,216 and near it, from both sides.
 
-use super::draft::{admission, Draft};
+use super::draft::Draft;
 use super::machines;
 use super::refused;
 use crate::planner::frames::Frame;
@@ -24,8 +24,8 @@ pub fn prime_factors(number: u64) -> Vec<u64> {
     primes
 }
 
-/// Periods whose least common multiple is this number; nothing where a prime power in it is no period.
-fn periods_of(random: &mut Random, number: u64) -> Option<Vec<u64>> {
+/// Deadlines whose least common multiple is this number; nothing where a prime power in it is no deadline.
+fn deadlines_of(random: &mut Random, number: u64) -> Option<Vec<u64>> {
     let mut powers: Vec<(u64, u64)> = Vec::new();
     for prime in prime_factors(number) {
         match powers.last_mut() {
@@ -33,23 +33,23 @@ fn periods_of(random: &mut Random, number: u64) -> Option<Vec<u64>> {
             _ => powers.push((prime, prime)),
         }
     }
-    let mut periods: Vec<u64> = Vec::new();
+    let mut deadlines: Vec<u64> = Vec::new();
     for (_, power) in powers {
         if power > 65_535 {
             return None;
         }
-        let joined = periods.iter().position(|period| period * power <= 65_535);
+        let joined = deadlines.iter().position(|deadline| deadline * power <= 65_535);
         match joined {
-            Some(place) if !random.one_in(4) => periods[place] *= power,
-            _ => periods.push(power),
+            Some(place) if !random.one_in(4) => deadlines[place] *= power,
+            _ => deadlines.push(power),
         }
     }
-    random.shuffle(&mut periods);
-    Some(periods)
+    random.shuffle(&mut deadlines);
+    Some(deadlines)
 }
 
 /// The goals of the family: both ends of the limit, 01's own trials, and numbers around them.
-fn goal(random: &mut Random) -> Vec<u64> {
+pub fn goal(random: &mut Random) -> Vec<u64> {
     loop {
         let number = match random.below(8) {
             0 => 16_777_215,
@@ -66,49 +66,57 @@ fn goal(random: &mut Random) -> Vec<u64> {
             3 => return vec![1_152, 1_024, 960],
             _ => (),
         }
-        if let Some(periods) = periods_of(random, number) {
-            return periods;
+        if let Some(deadlines) = deadlines_of(random, number) {
+            return deadlines;
         }
     }
 }
 
-/// Family e: all periods of the goal, the last one perhaps refused by 16, accepted once another has gone.
+/// Family e.
 pub fn cycles(draft: &mut Draft) {
     draft.unsettle();
     let machine = machines::valid(&mut draft.random);
     draft.put(&machine);
-    let periods = goal(&mut draft.random);
-    let (last, first) = periods.split_last().expect("a goal has a period");
-    let mut ids = Vec::new();
-    for period in first {
-        let id = refused::new_id(draft);
-        let cost = cost(draft, *period);
-        if draft.offer(&admission(id, cost, *period)) {
-            ids.push(id);
-        }
-    }
-    let id = refused::new_id(draft);
-    let cost = cost(draft, *last);
-    if draft.goes_on() || draft.random.one_in(3) {
-        draft.put(&admission(id, cost, *last));
-        draft.unsettle();
-    } else {
-        draft.admit(id, cost, *last);
-    }
-    if !ids.is_empty() && draft.random.one_in(2) {
-        let gone = draft.random.pick(&ids);
-        draft.put(&Frame::Retire { id: gone as u32 });
-        draft.unsettle();
-        draft.admit(id, cost, *last);
-    }
+    let deadlines = goal(&mut draft.random);
+    let jobs: Vec<Frame> = deadlines.iter().map(|&deadline| job(draft, deadline)).collect();
+    reach(draft, &jobs);
     draft.finish();
 }
 
-fn cost(draft: &mut Draft, period: u64) -> u64 {
-    match draft.random.below(4) {
+/// Jobs under different ids, the last of them perhaps refused by 16, accepted once another has gone.
+pub fn reach(draft: &mut Draft, jobs: &[Frame]) {
+    let (last, first) = jobs.split_last().expect("a goal has a job");
+    for job in first {
+        draft.offer(job);
+    }
+    let held = draft.book.jobs();
+    if draft.goes_on() || draft.random.one_in(3) {
+        draft.put(last);
+        draft.unsettle();
+    } else {
+        draft.offer(last);
+    }
+    if !held.is_empty() && draft.random.one_in(2) {
+        let gone = draft.random.pick(&held);
+        draft.put(&Frame::Retire { id: gone.id });
+        draft.unsettle();
+        draft.offer(last);
+    }
+}
+
+fn job(draft: &mut Draft, deadline: u64) -> Frame {
+    let id = refused::new_id(draft);
+    let cost = cost(draft, deadline);
+    draft.job(id, cost, deadline)
+}
+
+/// Any cost, or one at an end of what fits a processor.
+pub fn cost(draft: &mut Draft, deadline: u64) -> u64 {
+    match draft.random.below(5) {
         0 => 1,
-        1 => period,
-        2 => draft.random.between(1, 65_535),
-        _ => draft.random.between(1, period),
+        1 => deadline,
+        2 => (deadline + 1).min(65_535),
+        3 => draft.random.between(1, 65_535),
+        _ => draft.random.between(1, deadline),
     }
 }

@@ -16,6 +16,14 @@ enum Case {
     Mixed,
 }
 
+/// The frames by which a sheet admits its jobs.
+#[derive(Clone, Copy)]
+enum Admissions {
+    By03,
+    By06,
+    ByBoth,
+}
+
 pub struct Draft {
     pub random: Random,
     pub side: Side,
@@ -24,6 +32,7 @@ pub struct Draft {
     pub book: Book,
     bytes: Vec<u8>,
     case: Case,
+    admissions: Admissions,
     // What the book meets here does not count; the comparison counts it.
     unused: Box<Facts>,
 }
@@ -31,8 +40,10 @@ pub struct Draft {
 impl Draft {
     pub fn new(mut random: Random, side: Side, index: usize) -> Self {
         let case = random.pick(&[Case::Upper, Case::Upper, Case::Lower, Case::Mixed]);
+        let both = Admissions::ByBoth;
+        let admissions = random.pick(&[Admissions::By03, Admissions::By06, both, both]);
         let unused = Box::new(Facts::new());
-        Draft { random, side, index, book: Book::new(None), bytes: Vec::new(), case, unused }
+        Draft { random, side, index, book: Book::new(None), bytes: Vec::new(), case, admissions, unused }
     }
 
     pub fn into_sheet(self) -> Vec<u8> {
@@ -91,8 +102,23 @@ impl Draft {
         self.bytes.extend_from_slice(bytes);
     }
 
-    pub fn admit(&mut self, id: u64, cost: u64, period: u64) -> bool {
-        self.offer(&admission(id, cost, period))
+    /// Whether the sheet has frames 06.
+    pub fn has_deadlines(&self) -> bool {
+        !matches!(self.admissions, Admissions::By03)
+    }
+
+    /// A job with this cost that is due so many ticks after its period begins.
+    pub fn job(&mut self, id: u64, cost: u64, deadline: u64) -> Frame {
+        match self.admissions {
+            Admissions::By03 => admission(id, cost, deadline),
+            Admissions::By06 => due_within(&mut self.random, id, cost, deadline),
+            Admissions::ByBoth => either(&mut self.random, id, cost, deadline),
+        }
+    }
+
+    pub fn admit(&mut self, id: u64, cost: u64, deadline: u64) -> bool {
+        let frame = self.job(id, cost, deadline);
+        self.offer(&frame)
     }
 
     /// Lines after which a reader of the desk's output learns most: refused ones, then a plan. The host's call would end there.
@@ -166,8 +192,30 @@ impl Draft {
     }
 }
 
+/// Frame 03.
 pub fn admission(id: u64, cost: u64, period: u64) -> Frame {
     Frame::Admit { id: id as u32, cost: cost as u32, period: period as u32 }
+}
+
+/// Frame 06.
+pub fn with_deadline(id: u64, cost: u64, period: u64, deadline: u64) -> Frame {
+    Frame::AdmitWithDeadline { id: id as u32, cost: cost as u32, period: period as u32, deadline: deadline as u32 }
+}
+
+/// Frame 06 with this deadline and any period from it on.
+pub fn due_within(random: &mut Random, id: u64, cost: u64, deadline: u64) -> Frame {
+    let period = random.between(deadline, deadline.max(65_535));
+    let period = random.pick(&[deadline, deadline + 1, 2 * deadline, 65_535, period]);
+    with_deadline(id, cost, period.clamp(deadline, deadline.max(65_535)), deadline)
+}
+
+/// The same, or frame 03 with this deadline as its period.
+pub fn either(random: &mut Random, id: u64, cost: u64, deadline: u64) -> Frame {
+    if random.one_in(2) {
+        admission(id, cost, deadline)
+    } else {
+        due_within(random, id, cost, deadline)
+    }
 }
 
 /// The bytes of a frame, high byte first; numbers beyond their field lose their high bytes.
@@ -181,6 +229,9 @@ pub fn bytes_of(frame: &Frame) -> Vec<u8> {
             bytes
         }
         Frame::Admit { id, cost, period } => [&[3][..], &two(*id), &two(*cost), &two(*period)].concat(),
+        Frame::AdmitWithDeadline { id, cost, period, deadline } => {
+            [&[6][..], &two(*id), &two(*cost), &two(*period), &two(*deadline)].concat()
+        }
         Frame::Retire { id } => [&[4][..], &two(*id)].concat(),
         Frame::Plan => vec![5],
         Frame::Slack => vec![7],

@@ -1,6 +1,6 @@
 //! Tests met exactly and missed by one, and equal works.
 
-use super::draft::{admission, Draft};
+use super::draft::Draft;
 use super::machines;
 use super::refused;
 use crate::planner::capacity::least_common_multiple;
@@ -30,18 +30,18 @@ pub fn plan_speeds(draft: &mut Draft) -> Vec<u64> {
     plan.iter().map(|&level| u64::from(machine.speed(level))).collect()
 }
 
-pub fn admit_all(draft: &mut Draft, costs: &[u64], period: u64) {
+pub fn admit_all(draft: &mut Draft, costs: &[u64], deadline: u64) {
     let mut order: Vec<u64> = costs.to_vec();
     if draft.random.one_in(2) {
         draft.random.shuffle(&mut order);
     }
     for cost in order {
         let id = refused::new_id(draft);
-        draft.offer(&admission(id, cost.clamp(1, 65_535), period));
+        draft.admit(id, cost.clamp(1, 65_535), deadline);
     }
 }
 
-/// The period is a multiple of Q, and each job needs just its processor's speed; one cost may be off by one.
+/// The deadline is a multiple of Q, and each job needs just its processor's speed; one cost may be off by one.
 fn on_levels(draft: &mut Draft) {
     let top = u64::from(draft.machine().top());
     let ticks = draft.random.between(1, 65_535 / top);
@@ -70,7 +70,7 @@ fn split_last(draft: &mut Draft, costs: &mut Vec<u64>) {
     }
 }
 
-/// A period and costs for which the two sides of test k differ by exactly one.
+/// A deadline and costs for which the two sides of test k differ by exactly one.
 fn off_by_one(draft: &mut Draft) {
     let top = u64::from(draft.machine().top());
     for _ in 0..8 {
@@ -80,19 +80,19 @@ fn off_by_one(draft: &mut Draft) {
         let sum: u64 = speeds[..k].iter().sum();
         let start = draft.random.between(1, 65_535 - top);
         let above = draft.random.one_in(2);
-        let need = |period: u64| if above { period * sum + 1 } else { period * sum - 1 };
-        // Only the period's remainder by Q matters, so Q periods in a row hold one where any does.
-        let Some(period) = (start..start + top).find(|&period| need(period) % top == 0) else {
+        let need = |deadline: u64| if above { deadline * sum + 1 } else { deadline * sum - 1 };
+        // Only the deadline's remainder by Q matters, so Q deadlines in a row hold one where any does.
+        let Some(deadline) = (start..start + top).find(|&deadline| need(deadline) % top == 0) else {
             continue;
         };
-        let total = need(period) / top;
-        let mut costs: Vec<u64> = speeds[..k - 1].iter().map(|speed| period * speed / top).collect();
+        let total = need(deadline) / top;
+        let mut costs: Vec<u64> = speeds[..k - 1].iter().map(|speed| deadline * speed / top).collect();
         let rest = total.saturating_sub(costs.iter().sum());
         costs.push(rest.max(1));
         if k == m && draft.random.one_in(2) {
             split_last(draft, &mut costs);
         }
-        admit_all(draft, &costs, period);
+        admit_all(draft, &costs, deadline);
         return;
     }
 }
@@ -100,21 +100,21 @@ fn off_by_one(draft: &mut Draft) {
 /// All works together fill every processor at top speed, or one tick more or less.
 fn full_load(draft: &mut Draft) {
     let m = u64::from(draft.machine().processors);
-    let period = draft.random.pick(&[1, 2, 3, 10, 997, 65_534]);
+    let deadline = draft.random.pick(&[1, 2, 3, 10, 997, 65_534]);
     let mut costs = Vec::new();
     for _ in 0..m {
-        let part = draft.random.between(1, period);
-        if part == period || draft.random.one_in(3) {
-            costs.push(period);
+        let part = draft.random.between(1, deadline);
+        if part == deadline || draft.random.one_in(3) {
+            costs.push(deadline);
         } else {
-            costs.extend([part, period - part]);
+            costs.extend([part, deadline - part]);
         }
     }
     let last = costs.pop().expect("a processor has a job");
-    admit_all(draft, &costs, period);
+    admit_all(draft, &costs, deadline);
     let id = refused::new_id(draft);
     let cost = draft.random.pick(&[last, last, last + 1, last + 1, last.max(2) - 1]);
-    let frame = admission(id, cost, period);
+    let frame = draft.job(id, cost, deadline);
     if draft.goes_on() || draft.random.one_in(2) {
         draft.put(&frame);
     } else {
@@ -122,7 +122,7 @@ fn full_load(draft: &mut Draft) {
     }
 }
 
-/// Family c: equal works from different costs and periods, or works that differ by very little.
+/// Family c: equal works from different costs and deadlines, or works that differ by very little.
 pub fn equal_works(draft: &mut Draft) {
     draft.unsettle();
     let machine = machines::valid(&mut draft.random);
@@ -156,22 +156,22 @@ fn nearly_equal(draft: &mut Draft) {
             best = (gap, (above, one as u64), (below, other as u64));
         }
     }
-    for (cost, period) in [best.1, best.2] {
+    for (cost, deadline) in [best.1, best.2] {
         let id = refused::new_id(draft);
-        draft.admit(id, cost, period);
+        draft.admit(id, cost, deadline);
     }
 }
 
-/// One ratio as several pairs of cost and period, some of them off by a little.
+/// One ratio as several pairs of cost and deadline, some of them off by a little.
 fn one_ratio(draft: &mut Draft) {
-    let period = draft.random.pick(&[1, 2, 3, 4, 5, 7, 10, 16, 100, 1_000]);
-    let cost = draft.random.between(1, period);
+    let deadline = draft.random.pick(&[1, 2, 3, 4, 5, 7, 10, 16, 100, 1_000]);
+    let cost = draft.random.between(1, deadline);
     for _ in 0..draft.random.between(2, 14) {
         let factor = draft.random.pick(&[1, 2, 3, 4, 6, 8, 12, 24, 48, 64]);
         let nudge = draft.random.pick(&[0, 0, 0, 0, 1]);
         let cost = (cost * factor).max(nudge + 1) - nudge;
         let id = refused::new_id(draft);
-        draft.admit(id, cost, period * factor);
+        draft.admit(id, cost, deadline * factor);
         if draft.goes_on() && draft.random.one_in(5) {
             draft.unsettle();
         }

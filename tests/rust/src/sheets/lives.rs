@@ -1,61 +1,61 @@
 //! Lives of a roster: jobs admitted, retired and admitted again, on machines of every size.
 
 use super::cycles;
-use super::draft::{admission, Draft};
+use super::draft::Draft;
 use super::machines;
 use super::refused;
 use super::tables;
 use crate::planner::frames::Frame;
 use crate::random::Random;
 
-/// Cycles with many divisors, and the longest one that periods can reach.
+/// Cycles with many divisors, and the longest one that deadlines can reach.
 const CYCLES: [u64; 16] = [
     10, 60, 128, 720, 5_040, 27_720, 32_768, 46_080, 55_440, 65_520, 65_535, 720_720, 1_441_440, 14_414_400,
     16_773_120, 16_777_215,
 ];
 
-/// The periods from which a sheet draws: divisors of one cycle, so that the limit on H is kept.
-pub struct Periods {
+/// The deadlines from which a sheet draws: divisors of one cycle, so that the limit on H is kept.
+pub struct Deadlines {
     primes: Vec<u64>,
 }
 
-impl Periods {
+impl Deadlines {
     pub fn any(random: &mut Random) -> Self {
-        Periods { primes: cycles::prime_factors(random.pick(&CYCLES)) }
+        Deadlines { primes: cycles::prime_factors(random.pick(&CYCLES)) }
     }
 
     pub fn one(&mut self, random: &mut Random) -> u64 {
         random.shuffle(&mut self.primes);
-        let mut period = 1;
+        let mut deadline = 1;
         for prime in &self.primes {
-            if period * prime <= 65_535 && !random.one_in(3) {
-                period *= prime;
+            if deadline * prime <= 65_535 && !random.one_in(3) {
+                deadline *= prime;
             }
         }
-        period
+        deadline
     }
 }
 
 /// A job that asks for at most this many hundredths of a processor.
-pub fn job(random: &mut Random, id: u64, periods: &mut Periods, hundredths: u64) -> Frame {
-    let period = periods.one(random);
-    let most = (period * hundredths / 100).clamp(1, period);
-    let cost = if random.one_in(6) { most } else { random.between(1, most) };
-    admission(id, cost, period)
+pub fn job(draft: &mut Draft, id: u64, deadlines: &mut Deadlines, hundredths: u64) -> Frame {
+    let deadline = deadlines.one(&mut draft.random);
+    let most = (deadline * hundredths / 100).clamp(1, deadline);
+    let cost = if draft.random.one_in(6) { most } else { draft.random.between(1, most) };
+    draft.job(id, cost, deadline)
 }
 
 /// Admits up to so many jobs of any weight.
 pub fn admit_some(draft: &mut Draft, count: u64) {
-    let mut periods = Periods::any(&mut draft.random);
+    let mut deadlines = Deadlines::any(&mut draft.random);
     let weight = draft.random.pick(&[5, 30, 100, 100]);
     for _ in 0..count {
         let id = refused::new_id(draft);
-        let frame = job(&mut draft.random, id, &mut periods, weight);
+        let frame = job(draft, id, &mut deadlines, weight);
         draft.offer(&frame);
     }
 }
 
-pub fn fill(draft: &mut Draft, ids: &mut Vec<u64>, periods: &mut Periods, target: usize) {
+pub fn fill(draft: &mut Draft, ids: &mut Vec<u64>, deadlines: &mut Deadlines, target: usize) {
     let m = u64::from(draft.machine().processors);
     let mut weight = (draft.random.between(1, 3) * m * 100 / 64).clamp(1, 100);
     let mut tries = 0;
@@ -65,7 +65,7 @@ pub fn fill(draft: &mut Draft, ids: &mut Vec<u64>, periods: &mut Periods, target
             Some(id) if !draft.book.holds(id as u32) => id,
             _ => refused::new_id(draft),
         };
-        let frame = job(&mut draft.random, id, periods, weight);
+        let frame = job(draft, id, deadlines, weight);
         if !draft.offer(&frame) {
             weight = (weight / 2).max(1);
         }
@@ -97,10 +97,10 @@ pub fn lives(draft: &mut Draft) {
     draft.unsettle();
     let machine = machines::valid(&mut draft.random);
     draft.put(&machine);
-    let mut periods = Periods::any(&mut draft.random);
+    let mut deadlines = Deadlines::any(&mut draft.random);
     let mut ids = Vec::new();
     let target = if draft.random.one_in(2) { 64 } else { draft.random.between(4, 40) as usize };
-    fill(draft, &mut ids, &mut periods, target);
+    fill(draft, &mut ids, &mut deadlines, target);
     draft.unsettle();
     for _ in 0..draft.random.between(1, 2) {
         retire_some(draft, &mut ids);
@@ -111,10 +111,10 @@ pub fn lives(draft: &mut Draft) {
             draft.put(&Frame::Power(table));
         }
         if draft.random.one_in(3) && draft.book.jobs().is_empty() {
-            periods = Periods::any(&mut draft.random);
+            deadlines = Deadlines::any(&mut draft.random);
         }
         if !draft.random.one_in(4) {
-            fill(draft, &mut ids, &mut periods, target);
+            fill(draft, &mut ids, &mut deadlines, target);
             draft.unsettle();
         }
     }
@@ -134,11 +134,11 @@ fn full_roster(draft: &mut Draft) {
 pub fn small(draft: &mut Draft) {
     let machine = machines::small(&mut draft.random);
     draft.put(&machine);
-    let period = draft.random.between(1, 24);
+    let deadline = draft.random.between(1, 24);
     for id in 1..=draft.random.between(1, 6) {
-        let period = draft.random.pick(&[period, period, 2 * period, 12]);
-        let cost = draft.random.between(1, period);
-        draft.admit(id, cost, period);
+        let deadline = draft.random.pick(&[deadline, deadline, 2 * deadline, 12]);
+        let cost = draft.random.between(1, deadline);
+        draft.admit(id, cost, deadline);
     }
     draft.unsettle();
     draft.finish();
@@ -146,19 +146,19 @@ pub fn small(draft: &mut Draft) {
 
 /// Family j: any line after any other.
 pub fn mixtures(draft: &mut Draft) {
-    let mut periods = Periods::any(&mut draft.random);
+    let mut deadlines = Deadlines::any(&mut draft.random);
     if !draft.random.one_in(10) {
         let machine = machines::valid(&mut draft.random);
         draft.unsettle();
         draft.put(&machine);
     }
     for _ in 0..draft.random.between(1, 16) {
-        mixed_line(draft, &mut periods);
+        mixed_line(draft, &mut deadlines);
     }
     draft.finish();
 }
 
-fn mixed_line(draft: &mut Draft, periods: &mut Periods) {
+fn mixed_line(draft: &mut Draft, deadlines: &mut Deadlines) {
     let jobs = draft.book.jobs();
     let machine = draft.book.machine();
     match draft.random.below(10) {
@@ -181,7 +181,7 @@ fn mixed_line(draft: &mut Draft, periods: &mut Periods) {
         _ => {
             let id = refused::new_id(draft);
             let weight = draft.random.pick(&[10, 50, 100, 100]);
-            let frame = job(&mut draft.random, id, periods, weight);
+            let frame = job(draft, id, deadlines, weight);
             draft.offer(&frame);
         }
     }

@@ -1,6 +1,6 @@
 //! Machine frames, and the family with m, L, b, d and Q at the ends of their ranges and one beyond.
 
-use super::draft::{admission, Draft};
+use super::draft::Draft;
 use super::refused;
 use crate::planner::frames::Frame;
 use crate::random::Random;
@@ -132,17 +132,17 @@ fn refused_machine(draft: &mut Draft) {
 /// Loads from nothing to every processor at the top.
 fn jobs_at_the_ends(draft: &mut Draft) {
     let m = u64::from(draft.machine().processors);
-    let period: u64 = draft.random.pick(&[1, 2, 10, 100, 4_096, 65_535]);
+    let deadline: u64 = draft.random.pick(&[1, 2, 10, 100, 4_096, 65_535]);
     let (count, cost) = match draft.random.below(6) {
         0 => (0, 1),
-        1 => (m, period),
-        2 => (2 * m, period / 2),
-        3 => (m - 1, period),
-        4 => (m, period.saturating_sub(1)),
-        _ => (draft.random.between(1, m), draft.random.between(1, period)),
+        1 => (m, deadline),
+        2 => (2 * m, deadline / 2),
+        3 => (m - 1, deadline),
+        4 => (m, deadline.saturating_sub(1)),
+        _ => (draft.random.between(1, m), draft.random.between(1, deadline)),
     };
     for id in 1..=count {
-        draft.offer(&admission(id, cost.max(1), period));
+        draft.admit(id, cost.max(1), deadline);
         if draft.goes_on() && draft.random.one_in(8) {
             draft.unsettle();
         }

@@ -3,6 +3,7 @@
 
 pub mod cycles;
 pub mod damage;
+pub mod deadlines;
 pub mod draft;
 pub mod exact;
 pub mod lengths;
@@ -74,14 +75,14 @@ const fn family(letter: char, name: &'static str, counts: [usize; 4], make: fn(&
 
 /// The numbers of sheets for the host, the desk, the library call and the order of the jobs are divided evenly among the seeds.
 /// The letters m to u are those of the lists.
-pub const FAMILIES: [Family; 17] = [
+pub const FAMILIES: [Family; 21] = [
     family('a', "lives that reach 64 jobs, retire and readmit", [7_000, 1_200, 120, 100], lives::lives),
     family('b', "tests met exactly and missed by one", [26_000, 1_400, 120, 60], exact::exact),
     family('c', "equal works", [10_000, 800, 80, 200], exact::equal_works),
     family('d', "machines at the ends of their ranges", [12_000, 1_200, 80, 40], machines::machines),
     family('e', "hyperperiods near the limit", [12_000, 1_200, 120, 100], cycles::cycles),
     family('f', "tables at every edge", [12_000, 1_200, 40, 0], tables::tables),
-    family('g', "damaged lines", [14_000, 1_600, 160, 60], damage::damage),
+    family('g', "damaged lines", [22_000, 2_100, 200, 60], damage::damage),
     family('h', "sheets of the longest length", [400, 60, 0, 0], lengths::lengths),
     family('i', "small machines", [12_000, 1_000, 80, 80], lives::small),
     family('j', "free mixtures", [12_000, 1_400, 160, 120], lives::mixtures),
@@ -92,4 +93,8 @@ pub const FAMILIES: [Family; 17] = [
     family('x', "all works different", [0, 0, 0, 240], ties::all_different),
     family('y', "works that hardly differ", [0, 0, 0, 320], ties::neighbours),
     family('z', "no machine, no job or one", [0, 0, 0, 120], ties::few),
+    family('A', "deadlines at the ends of their range", [6_000, 400, 120, 60], deadlines::ends),
+    family('B', "cycles by deadlines, not by periods", [4_000, 300, 80, 60], deadlines::cycles),
+    family('C', "two refusals of a deadline at once", [3_000, 220, 80, 0], deadlines::refusals),
+    family('D', "works by deadlines, not by periods", [3_000, 200, 60, 120], deadlines::parted),
 ];

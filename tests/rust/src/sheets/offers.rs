@@ -1,7 +1,7 @@
 //! Long sheets of admissions for the library call, of which many are refused and many don't fit.
 
-use super::draft::{admission, Draft};
-use super::lives::{job, retire_some, Periods};
+use super::draft::Draft;
+use super::lives::{job, retire_some, Deadlines};
 use super::machines;
 use super::refused;
 use super::tables;
@@ -9,7 +9,7 @@ use crate::planner::frames::Frame;
 
 /// The character of a sheet.
 struct Offers {
-    periods: Periods,
+    deadlines: Deadlines,
     /// Jobs ask for up to so many hundredths of a processor.
     weight: u64,
     /// One line in so many offers a job that fills the machine, or is beyond it.
@@ -33,7 +33,7 @@ pub fn offers(draft: &mut Draft) {
     let m = u64::from(draft.machine().processors);
     let full = draft.random.one_in(4);
     let offers = Offers {
-        periods: Periods::any(&mut draft.random),
+        deadlines: Deadlines::any(&mut draft.random),
         weight: if full { (m * 100 / 64).max(1) } else { draft.random.pick(&[10, 50, 100]) },
         heavy: draft.random.pick(&[2, 4, 8]),
         retire: if full { 60 } else { draft.random.pick(&[6, 12, 30]) },
@@ -41,7 +41,7 @@ pub fn offers(draft: &mut Draft) {
     let lines = if full { draft.random.between(80, 130) } else { draft.random.between(5, 60) };
     offers.draw(draft, lines);
     if draft.book.jobs().len() == 64 {
-        for number in [13, 15, 15, 5, 16] {
+        for number in [4, 13, 15, 15, 5, 16] {
             refused::of_number(draft, number);
         }
         retire_some(draft, &mut Vec::new());
@@ -69,7 +69,7 @@ impl Offers {
                 draft.put(&Frame::Power(table));
             } else {
                 let id = refused::new_id(draft);
-                let frame = job(&mut draft.random, id, &mut self.periods, self.weight);
+                let frame = job(draft, id, &mut self.deadlines, self.weight);
                 draft.put(&frame);
             }
         }
@@ -80,19 +80,19 @@ impl Offers {
 fn at_the_limit(draft: &mut Draft) -> Frame {
     let id = refused::new_id(draft);
     let jobs = draft.book.jobs();
-    let period = match draft.random.below(4) {
+    let deadline = match draft.random.below(4) {
         0 | 1 if draft.cycle() <= 65_535 => draft.cycle(),
-        2 if !jobs.is_empty() => u64::from(draft.random.pick(&jobs).period),
+        2 if !jobs.is_empty() => u64::from(draft.random.pick(&jobs).deadline),
         _ => draft.random.pick(&[1, 2, 3, 10]),
     };
     let free = refused::free_work(draft);
     let cost = match draft.random.below(8) {
-        0 | 1 if period == draft.cycle() => free,
-        2 if period == draft.cycle() => free + 1,
-        3 => period,
-        4 | 5 => period + 1,
+        0 | 1 if deadline == draft.cycle() => free,
+        2 if deadline == draft.cycle() => free + 1,
+        3 => deadline,
+        4 | 5 => deadline + 1,
         6 => 65_535,
         _ => draft.random.between(1, 65_535),
     };
-    admission(id, cost.clamp(1, 65_535), period)
+    draft.job(id, cost.clamp(1, 65_535), deadline)
 }

@@ -1,7 +1,7 @@
 //! Lines that are refused by a chosen number in the state of the draft, often with a later condition of the order holding too.
 
 use super::damage;
-use super::draft::{admission, Draft};
+use super::draft::{admission, with_deadline, Draft};
 use super::machines;
 use super::tables;
 use crate::planner::capacity::least_common_multiple;
@@ -25,7 +25,7 @@ pub fn of_number(draft: &mut Draft, number: Refusal) -> bool {
         1 if !open => Some(machines::wrong_processors(&mut draft.random)),
         2 if !open => Some(machines::wrong_speeds(&mut draft.random)),
         3 if open => Some(tables::refused(draft)),
-        4 if open => Some(zeros(draft)),
+        4 if open => Some(out_of_range(draft)),
         5 => {
             damage::damaged_line(draft);
             return true;
@@ -59,6 +59,14 @@ pub fn new_id(draft: &mut Draft) -> u64 {
     }
 }
 
+fn out_of_range(draft: &mut Draft) -> Frame {
+    match draft.random.below(4) {
+        0 if draft.has_deadlines() => zeros_of_06(draft),
+        1 if draft.has_deadlines() => wrong_deadline(draft),
+        _ => zeros(draft),
+    }
+}
+
 fn zeros(draft: &mut Draft) -> Frame {
     let id = new_id(draft);
     match draft.random.below(5) {
@@ -70,12 +78,40 @@ fn zeros(draft: &mut Draft) -> Frame {
     }
 }
 
+fn zeros_of_06(draft: &mut Draft) -> Frame {
+    let id = new_id(draft);
+    let deadline = draft.random.between(1, 10);
+    match draft.random.below(5) {
+        0 => with_deadline(0, 1, 10, deadline),
+        1 => with_deadline(id, 0, 10, deadline),
+        2 => with_deadline(id, 1, 0, deadline),
+        3 => with_deadline(id, 1, 0, 0),
+        _ => with_deadline(0, 0, 0, 0),
+    }
+}
+
+/// Frame 06 with a deadline of 0 or after the period's end, under a new id or under one that is held. The cost may be beyond the
+/// deadline, and the deadline may make the cycle too long.
+pub fn wrong_deadline(draft: &mut Draft) -> Frame {
+    let jobs = draft.book.jobs();
+    let id = match draft.random.below(3) {
+        0 if !jobs.is_empty() => u64::from(draft.random.pick(&jobs).id),
+        _ => new_id(draft),
+    };
+    let any = draft.random.between(1, 65_534);
+    let period = draft.random.pick(&[1, 2, 10, 255, 996, 4_096, 65_520, 65_534, any]);
+    let beyond = draft.random.between(period + 1, 65_535);
+    let deadline = draft.random.pick(&[0, 0, period + 1, period + 1, 65_535, beyond]);
+    let cost = draft.random.pick(&[1, 1, period, (deadline + 1).min(65_535)]);
+    with_deadline(id, cost, period, deadline)
+}
+
 fn without_machine(draft: &mut Draft) -> Frame {
     match draft.random.below(if draft.goes_on() { 6 } else { 4 }) {
         0 => Frame::Power(vec![draft.random.below(20) as u32; draft.random.between(1, 32) as usize]),
         1 => any_admission(draft),
         2 => Frame::Retire { id: draft.random.below(3) as u32 },
-        3 => zeros(draft),
+        3 => out_of_range(draft),
         4 => Frame::Slack,
         _ => Frame::Plan,
     }
@@ -83,9 +119,10 @@ fn without_machine(draft: &mut Draft) -> Frame {
 
 fn any_admission(draft: &mut Draft) -> Frame {
     let id = new_id(draft);
-    let period = draft.random.pick(&[1, 10, 48, 997, 65_521, 65_535]);
+    let deadline = draft.random.pick(&[1, 10, 48, 997, 65_521, 65_535]);
     let cost = draft.random.between(1, 65_535);
-    admission(id, if draft.random.one_in(2) { 1 } else { cost }, period)
+    let cost = if draft.random.one_in(2) { 1 } else { cost };
+    draft.job(id, cost, deadline)
 }
 
 fn id_held(draft: &mut Draft) -> Option<Frame> {
@@ -94,23 +131,27 @@ fn id_held(draft: &mut Draft) -> Option<Frame> {
         return None;
     }
     let id = draft.random.pick(&jobs).id;
-    let period = draft.random.pick(&[1, 10, 65_521, 65_535]);
+    let deadline = draft.random.pick(&[1, 10, 65_521, 65_535]);
     let cost = draft.random.pick(&[1, 11, 65_535]);
-    Some(admission(u64::from(id), cost, period))
+    Some(draft.job(u64::from(id), cost, deadline))
 }
 
 fn cycle_too_long(draft: &mut Draft) -> Option<Frame> {
     let id = new_id(draft);
     let cycle = u128::from(draft.cycle());
     for _ in 0..20 {
-        let period = match draft.random.below(3) {
+        let deadline = match draft.random.below(3) {
             0 => draft.random.pick(&[65_521, 65_519, 65_497, 65_533, 65_535, 4_096, 4_097, 673, 257, 97]),
             1 => draft.random.between(60_000, 65_535),
             _ => draft.random.between(1, 65_535),
         };
-        if least_common_multiple(cycle, u128::from(period)) > 16_777_216 {
-            let cost = if draft.random.one_in(2) { 1 } else { draft.random.between(1, 65_535) };
-            return Some(admission(id, cost, period));
+        if least_common_multiple(cycle, u128::from(deadline)) > 16_777_216 {
+            let cost = match draft.random.below(4) {
+                0 | 1 => 1,
+                2 => (deadline + 1).min(65_535),
+                _ => draft.random.between(1, 65_535),
+            };
+            return Some(draft.job(id, cost, deadline));
         }
     }
     None
@@ -123,21 +164,22 @@ fn no_plan(draft: &mut Draft) -> Frame {
     let room = free_work(draft);
     if cycle <= 65_535 && room < cycle && !draft.random.one_in(3) {
         let cost = draft.random.pick(&[room + 1, room + 1, cycle]);
-        return admission(id, cost, cycle);
+        return draft.job(id, cost, cycle);
     }
-    let period = match draft.book.jobs().first() {
-        Some(job) => u64::from(job.period),
+    let deadline = match draft.book.jobs().first() {
+        Some(job) => u64::from(job.deadline),
         None => draft.random.between(1, 65_534),
     };
-    let period = period.min(65_534);
-    let period = if cycle % period == 0 || cycle == 1 { period } else { 1 };
-    admission(id, draft.random.pick(&[period + 1, period + 1, 65_535]), period)
+    let deadline = deadline.min(65_534);
+    let deadline = if cycle % deadline == 0 || cycle == 1 { deadline } else { 1 };
+    let cost = draft.random.pick(&[deadline + 1, deadline + 1, 65_535]);
+    draft.job(id, cost, deadline)
 }
 
 /// The work that every processor at top speed would still have free in a cycle.
 pub fn free_work(draft: &Draft) -> u64 {
     let cycle = draft.cycle();
     let jobs = draft.book.jobs();
-    let used: u64 = jobs.iter().map(|job| u64::from(job.cost) * (cycle / u64::from(job.period))).sum();
+    let used: u64 = jobs.iter().map(|job| u64::from(job.cost) * (cycle / u64::from(job.deadline))).sum();
     u64::from(draft.machine().processors) * cycle - used
 }

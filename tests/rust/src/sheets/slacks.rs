@@ -2,7 +2,7 @@
 
 use super::draft::Draft;
 use super::exact::{admit_all, plan_speeds};
-use super::lives::{job, retire_some, Periods};
+use super::lives::{job, retire_some, Deadlines};
 use super::machines;
 use super::refused;
 use crate::planner::frames::Frame;
@@ -34,7 +34,7 @@ fn fine(random: &mut Random) -> Frame {
     machines::frame(m, l, top - (l - 1) * d, d)
 }
 
-/// A period and costs that leave test k of some plan with no tick and a chosen remainder: none, the largest or any.
+/// A deadline and costs that leave test k of some plan with no tick and a chosen remainder: none, the largest or any.
 fn with_remainder(draft: &mut Draft) {
     let top = u64::from(draft.machine().top());
     for _ in 0..8 {
@@ -44,20 +44,20 @@ fn with_remainder(draft: &mut Draft) {
         let any = draft.random.below(top);
         let remainder = draft.random.pick(&[0, top - 1, top - 1, any]);
         let start = draft.random.between(top, 65_535 - top);
-        let exact = |period: &u64| (period * sum - remainder) % top == 0;
-        let Some(period) = (start..start + top).find(exact) else {
+        let exact = |deadline: &u64| (deadline * sum - remainder) % top == 0;
+        let Some(deadline) = (start..start + top).find(exact) else {
             continue;
         };
-        let total = (period * sum - remainder) / top;
-        let mut costs: Vec<u64> = speeds[..k - 1].iter().map(|speed| period * speed / top).collect();
+        let total = (deadline * sum - remainder) / top;
+        let mut costs: Vec<u64> = speeds[..k - 1].iter().map(|speed| deadline * speed / top).collect();
         costs.push(total.saturating_sub(costs.iter().sum()).max(1));
-        admit_all(draft, &costs, period);
+        admit_all(draft, &costs, deadline);
         return;
     }
 }
 
 fn coming_and_going(draft: &mut Draft) {
-    let mut periods = Periods::any(&mut draft.random);
+    let mut deadlines = Deadlines::any(&mut draft.random);
     let mut ids = Vec::new();
     let weight = draft.random.pick(&[20, 60, 100]);
     for _ in 0..draft.random.between(3, 12) {
@@ -65,7 +65,7 @@ fn coming_and_going(draft: &mut Draft) {
             retire_some(draft, &mut ids);
         } else {
             let id = refused::new_id(draft);
-            let frame = job(&mut draft.random, id, &mut periods, weight);
+            let frame = job(draft, id, &mut deadlines, weight);
             offer_or_put(draft, &frame);
         }
         if !draft.random.one_in(3) {

@@ -1,31 +1,31 @@
-//! Rosters for the order in which jobs are taken: ties from different costs and periods, works that hardly differ, and few jobs
+//! Rosters for the order in which jobs are taken: ties from different costs and deadlines, works that hardly differ, and few jobs
 //! or none. Refused lines and retirements stand between the admissions.
 
-use super::draft::{admission, Draft};
+use super::draft::Draft;
 use super::machines;
 use super::refused;
 use crate::planner::frames::Frame;
 use crate::random::Random;
 
-/// Short cycles, longer ones with many divisors, and the longest that periods can reach.
+/// Short cycles, longer ones with many divisors, and the longest that deadlines can reach.
 const CYCLES: [u64; 18] = [
     1, 2, 6, 12, 24, 64, 120, 360, 720, 5_040, 27_720, 46_080, 55_440, 65_520, 65_535, 720_720, 16_773_120, 16_777_215,
 ];
 
-/// A cost and its period.
+/// A cost and its deadline.
 type Pair = (u64, u64);
 
-/// A cycle and the periods that divide it.
+/// A cycle and the deadlines that divide it.
 struct Cycle {
     ticks: u64,
-    periods: Vec<u64>,
+    deadlines: Vec<u64>,
 }
 
 impl Cycle {
     fn new(ticks: u64) -> Self {
         let smaller = (1..=4_096).filter(|divisor| ticks % divisor == 0);
-        let periods = smaller.flat_map(|divisor| [divisor, ticks / divisor]).filter(|&period| period <= 65_535);
-        Cycle { ticks, periods: periods.collect() }
+        let deadlines = smaller.flat_map(|divisor| [divisor, ticks / divisor]).filter(|&deadline| deadline <= 65_535);
+        Cycle { ticks, deadlines: deadlines.collect() }
     }
 
     /// A cycle in which a machine with m processors has room for so many jobs of different works.
@@ -38,20 +38,20 @@ impl Cycle {
         }
     }
 
-    /// A work of at most so many ticks where some period has one; most often several periods have it.
+    /// A work of at most so many ticks where some deadline has one; most often several deadlines have it.
     fn work(&self, random: &mut Random, most: u64) -> u64 {
-        let light: Vec<u64> = self.periods.iter().copied().filter(|period| self.ticks / period <= most).collect();
-        let period = random.pick(if light.is_empty() { &self.periods } else { &light });
-        let least = self.ticks / period;
+        let light: Vec<u64> = self.deadlines.iter().copied().filter(|deadline| self.ticks / deadline <= most).collect();
+        let deadline = random.pick(if light.is_empty() { &self.deadlines } else { &light });
+        let least = self.ticks / deadline;
         least * random.between(1, (most.min(self.ticks) / least).max(1))
     }
 
     /// Any of the pairs that have this work in the cycle.
     fn pair(&self, random: &mut Random, work: u64) -> Pair {
-        let whole = |period: &u64| work % (self.ticks / period) == 0;
-        let periods: Vec<u64> = self.periods.iter().copied().filter(whole).collect();
-        let period = random.pick(&periods);
-        (work / (self.ticks / period), period)
+        let whole = |deadline: &u64| work % (self.ticks / deadline) == 0;
+        let deadlines: Vec<u64> = self.deadlines.iter().copied().filter(whole).collect();
+        let deadline = random.pick(&deadlines);
+        (work / (self.ticks / deadline), deadline)
     }
 }
 
@@ -89,7 +89,7 @@ fn target(random: &mut Random) -> u64 {
 
 /// Admits the pairs until so many jobs are held, with other lines between. Some pairs may be too much for the machine.
 fn admit_pairs(draft: &mut Draft, ids: &mut Vec<u64>, pairs: &[Pair], target: u64) {
-    for &(cost, period) in pairs {
+    for &(cost, deadline) in pairs {
         if draft.book.jobs().len() as u64 == target {
             return;
         }
@@ -97,7 +97,8 @@ fn admit_pairs(draft: &mut Draft, ids: &mut Vec<u64>, pairs: &[Pair], target: u6
             Some(id) if !draft.book.holds(id as u32) => id,
             _ => refused::new_id(draft),
         };
-        draft.put(&admission(id, cost, period));
+        let frame = draft.job(id, cost, deadline);
+        draft.put(&frame);
         if draft.random.one_in(12) {
             let number = draft.random.pick(&[4, 5, 5, 12, 13, 13, 14, 16, 16, 17, 17]);
             refused::of_number(draft, number);
@@ -153,7 +154,10 @@ fn end(draft: &mut Draft) {
             let jobs = draft.book.jobs();
             let frame = match draft.random.below(2) {
                 0 if !jobs.is_empty() => Frame::Retire { id: draft.random.pick(&jobs).id },
-                _ => admission(refused::new_id(draft), 1, 1),
+                _ => {
+                    let id = refused::new_id(draft);
+                    draft.job(id, 1, 1)
+                }
             };
             let text = draft.text(&frame);
             draft.raw(&text);
@@ -211,7 +215,7 @@ pub fn all_different(draft: &mut Draft) {
     live(draft, &pairs, target);
 }
 
-/// Two periods without a common divisor, and a number whose divisors may lengthen both.
+/// Two deadlines without a common divisor, and a number whose divisors may lengthen both.
 const NEIGHBOURS: [(u64, u64, u64); 9] = [
     (2, 3, 720_720),
     (15, 16, 5_040),
@@ -234,7 +238,7 @@ pub fn neighbours(draft: &mut Draft) {
     let near = |cost: u64| [cost * other + apart, (cost * other).saturating_sub(apart)];
     let next = |cost: u64| near(cost).into_iter().find(|&work| work > 0 && work % one == 0 && work <= one * other);
     let costs = (start..=one).chain(1..start).find_map(|cost| next(cost).map(|work| (cost, work / one)));
-    // The shortest periods have no works that are so far apart.
+    // The shortest deadlines have no works that are so far apart.
     let Some((cost, next_cost)) = costs else {
         return;
     };
@@ -242,9 +246,9 @@ pub fn neighbours(draft: &mut Draft) {
     let target = draft.random.between(2, 16);
     let pairs: Vec<Pair> = (0..target + 3)
         .map(|_| {
-            let (cost, period) = draft.random.pick(&[(cost, one), (next_cost, other)]);
+            let (cost, deadline) = draft.random.pick(&[(cost, one), (next_cost, other)]);
             let factor = draft.random.pick(&factors);
-            (cost * factor, period * factor)
+            (cost * factor, deadline * factor)
         })
         .collect();
     live(draft, &pairs, target);

@@ -1,14 +1,17 @@
 -- `planner::Roster::admit` meets its contract.
 use native.Mathlib.Omega.{arith}
-use mathlib.Core.Path.{_≡_, refl, sym, _∙_}
+use mathlib.Core.Path.{_≡_, refl, sym, ap, subst, _∙_}
 use mathlib.Core.Bool.{true}
 use borrow.Author.Needs.{needs}
 use borrow.Author.Tests.{not-true, not-false}
 use lib.ListN.{length, take, length-map}
-use Rattle.gmf.specs.Jobs.{JobInRange, job}
+use Rattle.gmf.specs.declared.Job.{Job}
+use Rattle.gmf.specs.Jobs.{JobInRange, jobDue}
 use Rattle.ranges.specs.Ranges.{jobFits}
 use Rattle.ranges.proofs.Results.{ranging}
 use Rattle.workload.specs.Load.{totals}
+use Rattle.planner.specs.Model.{onMachine, admitted}
+use Rattle.planner.specs.Roster.{modelOf, replied}
 use Rattle.planner.specs.Claims.{IsSound}
 use Rattle.planner.proofs.Outcomes.{admit-4, admit-in}
 use Rattle.refusals.specs.declared.Refusal.the-variants.{Damaged, JobNumbers, NoMachine}
@@ -24,13 +27,13 @@ places c = simp length-map at (c .good .0 .1 .1 .1 .1 .1 .0 .1 .0 .1)
 
 ranged : (c : tie.Else1)
     → jobFits (c .before .before .before .before .before .before .args .id) (c .before .before .before .before .before .before .args .cost)
-    (c .before .before .before .before .before .before .args .period) ≡ true
+    (c .before .before .before .before .before .before .args .period) (c .before .before .before .before .before .before .args .deadline) ≡ true
 ranged c = sym (c .before .job-fits .ensures) ∙ not-false _ (c .if1 .left)
 
 in-range : (c : tie.Else1)
-    → JobInRange (job (c .before .before .before .before .before .before .args .id) (c .before .before .before .before .before .before .args .cost)
-    (c .before .before .before .before .before .before .args .period))
-in-range c = ranging .rule .one-job _ _ _ .0 (ranged c)
+    → JobInRange (jobDue (c .before .before .before .before .before .before .args .id) (c .before .before .before .before .before .before .args .cost)
+    (c .before .before .before .before .before .before .args .period) (c .before .before .before .before .before .before .args .deadline))
+in-range c = ranging .rule .one-job _ _ _ _ .0 (ranged c)
 
 open-at : (c : tie.After-condition)
     → IsSound (c .before .before .before .args .self)
@@ -69,19 +72,15 @@ returns c =
     let o = f .before .before in
     let s = o .before .before .before in
     refused-by (s .args .self) JobNumbers (c .refuse3 .ensures) refl refl
-    (reply-open _ (entries s) (places s) (open-at o .0) _ _ (admit-4 _ _ _ _ _ _ (sym (f .job-fits .ensures) ∙ not-true _ (c .before .if1 .taken))))
+    (reply-open _ (entries s) (places s) (open-at o .0) _ _ (admit-4 _ _ _ _ _ _ _ (sym (f .job-fits .ensures) ∙ not-true _ (c .before .if1 .taken))))
 
-cast-t14 : tie.Need-cast-t14
-cast-t14 c = omega (arith, in-range c .id, in-range c .cost, in-range c .period)
-
-cast-t15 : tie.Need-cast-t15
-cast-t15 c = omega (arith, in-range c .id, in-range c .cost, in-range c .period)
-
-cast-t16 : tie.Need-cast-t16
-cast-t16 c = omega (arith, in-range c .id, in-range c .cost, in-range c .period)
+job-of-requires : tie.Need-job-of-requires
+job-of-requires c κs = in-range c
 
 enter-requires : tie.Need-enter-requires
-enter-requires c κs = let o = open-at (c .before .before .before) in (o .0, o .1, in-range c)
+enter-requires c κs =
+    let o = open-at (c .before .before .before .before) in
+    (o .0, o .1, subst JobInRange (sym (c .job-of .ensures)) (in-range (c .before)))
 
 returns-2 : tie.Need-returns-2
 returns-2 c =
@@ -95,14 +94,17 @@ returns-3 c =
     let t = c .before in
     let s = t .before .before .before in
     refused-by (s .args .self) NoMachine (c .refuse2 .ensures) refl refl
-    (admit-11 _ (sym (t .before .before .inspect .ensures) ∙ t .enum-told2 .given .1) _ _ _)
+    (admit-11 _ (sym (t .before .before .inspect .ensures) ∙ t .enum-told2 .given .1) _ _ _ _)
 
 returns-4 : tie.Need-returns-4
 returns-4 c =
-    let e = c .before in
+    let j = c .before in
+    let e = j .before in
     let o = e .before .before .before in
     let s = o .before .before .before in
-    c .enter .ensures ∙ entered _ (entries s) (places s) (open-at o .0) _ _ (admit-in _ _ _ _ _ _ (ranged e))
+    c .enter .ensures
+    ∙ ap (λ (new : Job). replied (s .args .self) (onMachine (modelOf (s .args .self)) (admitted new))) (j .job-of .ensures)
+    ∙ entered _ (entries s) (places s) (open-at o .0) _ _ (admit-in _ _ _ _ _ _ _ (ranged e))
 
 pub admit-spec : {M : Type 1} → statement M
 admit-spec =
@@ -117,9 +119,7 @@ admit-spec =
     job-fits-requires
     refuse-requires-3
     returns
-    cast-t14
-    cast-t15
-    cast-t16
+    job-of-requires
     enter-requires
     returns-2
     returns-3

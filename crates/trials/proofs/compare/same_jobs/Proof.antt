@@ -34,6 +34,9 @@ returns-2 c = tt
 returns-3 : tie.Need-returns-3 Inv-loop μ-loop
 returns-3 c = tt
 
+returns-4 : tie.Need-returns-4 Inv-loop μ-loop
+returns-4 c = tt
+
 add-i : tie.Need-add-i Inv-loop μ-loop
 add-i c = omega arith
 
@@ -43,8 +46,8 @@ loop-less c = omega arith
 loop-again : tie.Need-loop-again Inv-loop μ-loop
 loop-again c = tt
 
-returns-4 : tie.Need-returns-4 Inv-loop μ-loop
-returns-4 c = tt
+returns-5 : tie.Need-returns-5 Inv-loop μ-loop
+returns-5 c = tt
 
 pub same-jobs-spec : {M : Type 1} → statement M
 same-jobs-spec =
@@ -60,7 +63,8 @@ same-jobs-spec =
     returns
     returns-2
     returns-3
+    returns-4
     add-i
     loop-less
     loop-again
-    returns-4)
+    returns-5)
