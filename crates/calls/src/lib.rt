@@ -1,4 +1,6 @@
 // Calls made as lines. The definitions are in specs/.
+#![tactic(auto)]
+
 ghost use Rattle.std.specs.Prelude.{◌≡◌, List, [], ℕ, take};
 ghost use Rattle.planner.specs.Model.{ReplaceTable, Admit};
 ghost use Rattle.refusals.specs.Numbers.{refusal_number};
@@ -12,7 +14,7 @@ use refusals::{Answer, Refusal};
 use slack_calls::file_slack;
 
 // The answer to a call made as a line, the roster that comes back, and how many bytes of the page were written.
-#[derive(Drop)]
+#[derive(Clone, Copy)]
 pub struct LineAnswer {
     pub answer: Answer,
     pub roster: Roster,

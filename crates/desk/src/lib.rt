@@ -1,4 +1,6 @@
 // The desk's sheets, page by page. The definitions are in specs/.
+#![tactic(auto)]
+
 ghost use Rattle.std.specs.Prelude.{◌≡◌, ◌+◌, ◌≤◌, true, ◌⊎◌, ◌↔◌, length, drop};
 ghost use Rattle.hexadecimal.specs.Text.{line_of};
 ghost use Rattle.frame_kinds.specs.declared.Frame.TheVariants.{Malformed};
@@ -22,7 +24,7 @@ const LONGEST_SHEET: usize = 65536;
 const LONGEST_FRAME: usize = 579;
 
 // Where the desk is in its sheet: the roster, the position of the next line, and its number.
-#[derive(Drop)]
+#[derive(Clone, Copy)]
 pub struct Desk {
     pub roster: Roster,
     pub at: usize,
@@ -30,7 +32,7 @@ pub struct Desk {
 }
 
 // Where the desk is after a page, and how far the page is filled.
-#[derive(Drop)]
+#[derive(Clone, Copy)]
 pub struct Filled {
     pub desk: Desk,
     pub end: usize,

@@ -1,4 +1,6 @@
 // The plan call: the plan of a roster, filed as a frame on a page. The definitions are in specs/.
+#![tactic(auto)]
+
 ghost use Rattle.std.specs.Prelude.{◌≡◌, take};
 ghost use Rattle.workload.specs.Load.{totals};
 ghost use Rattle.planner.specs.Claims.{IsSound};
@@ -14,7 +16,7 @@ use refusals::{Answer, Refusal};
 use workload::Totals;
 
 // What a plan call answers, and how many bytes of the page it wrote.
-#[derive(Drop)]
+#[derive(Clone, Copy)]
 pub struct Filing {
     pub answer: Answer,
     pub count: usize,

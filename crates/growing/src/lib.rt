@@ -1,4 +1,6 @@
 // The plan of a machine for its jobs, grown (paper 004, section III).
+#![tactic(auto)]
+
 ghost use Rattle.std.specs.Prelude.{◌≡◌, ◌≤◌, min, take};
 ghost use Rattle.gmf.specs.Machine.{InRange};
 ghost use Rattle.gmf.specs.Jobs.{JobInRange, ByRisingId, Every, hyperperiod, hyperperiod_limit};
@@ -11,7 +13,7 @@ use selection::{next_job, none_taken};
 use workload::{Totals, Verdict};
 
 // A level for each processor, and zeros after the last; the count of raises; the hyperperiod. All zeros where there is no plan.
-#[derive(Drop)]
+#[derive(Clone, Copy)]
 pub struct Plan {
     pub verdict: Verdict,
     pub hyperperiod: u32,

@@ -1,4 +1,6 @@
 // The calls of a host in C: a sheet or a list, a page and a place. include/planner.h declares them. The definitions are in specs/.
+#![tactic(auto)]
+
 ghost use Rattle.std.specs.Prelude.{◌≡◌, ◌≤◌, length};
 ghost use Rattle.hexadecimal.specs.Text.{line_of};
 ghost use Rattle.frame_reader.specs.Lines.{longest_sheet};
@@ -19,7 +21,7 @@ use planner::Roster;
 const LONGEST_SHEET: usize = 65536;
 
 // How a sheet ends: the number of the refusal and of the line that it refuses, both 0 where there is none, and the roster.
-#[derive(Drop)]
+#[derive(Clone, Copy)]
 struct Ended {
     pub number: u8,
     pub line: u32,

@@ -1,5 +1,7 @@
 // The table that a new machine uses (01, "Power"): the house table, read at its speeds. The definitions are gmf's, and the 32 entries those of
 // power_tables.
+#![tactic(auto)]
+
 ghost use Rattle.std.specs.Prelude.{◌≡◌};
 ghost use Rattle.gmf.specs.Machine.{InRange};
 ghost use Rattle.gmf.specs.Power.{default_table};

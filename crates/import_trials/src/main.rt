@@ -3,6 +3,8 @@
 // keeps every rule, 7 where it breaks one; how many jobs it holds; and the 32 entries of its table.
 // The file `stdout` has what must be printed for the lines in `stdin`. It is worked out from 02 by hand; a line of words is no list, and says what the
 // lines after it are for.
+#![tactic(auto)]
+
 ghost use Rattle.std.specs.Prelude.{◌≤◌, length};
 
 use frame_reader::line_end;

@@ -1,4 +1,6 @@
 // A fresh roster on the machine that a box's list of frequencies gives. The definitions are in specs/.
+#![tactic(auto)]
+
 ghost use Rattle.std.specs.Prelude.{◌≡◌};
 ghost use Rattle.planner.specs.Model.{refused};
 ghost use Rattle.planner.specs.Roster.{empty_roster, replied};
@@ -11,7 +13,7 @@ use ranges::{one_to, speeds_fit};
 use refusals::{Answer, Refusal};
 
 // The answer to an import, and its machine; where it is refused, one of all zeros.
-#[derive(Drop)]
+#[derive(Clone, Copy)]
 pub struct Found {
     pub answer: Answer,
     pub machine: Machine,

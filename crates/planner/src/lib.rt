@@ -1,5 +1,7 @@
 // The roster of jobs, and the calls that change it. A roster goes into each call and the next roster comes back. The definitions are in
 // specs/.
+#![tactic(auto)]
+
 ghost use Rattle.std.specs.Prelude.{◌≡◌, true, ◌≤◌, take};
 ghost use Rattle.gmf.specs.Jobs.{JobInRange, job_due};
 ghost use Rattle.places.specs.Places.{listed, has, before};
@@ -22,7 +24,7 @@ use workload::{Load, Totals, Verdict, load_of};
 const PLACES: usize = 64;
 
 // A machine, or none, its power table, and the jobs held, by rising id. What is not used is 0.
-#[derive(Drop)]
+#[derive(Clone, Copy)]
 pub struct Roster {
     pub machine: Machine,
     pub table: [u32; 32],
@@ -31,7 +33,7 @@ pub struct Roster {
 }
 
 // What a roster is found to be: one that breaks a rule, one with no machine, or one with a machine and the totals of its jobs.
-#[derive(Drop)]
+#[derive(Clone, Copy)]
 pub enum Condition {
     Damaged,
     Closed,
@@ -39,14 +41,14 @@ pub enum Condition {
 }
 
 // The answer to a call, and the roster that comes back.
-#[derive(Drop)]
+#[derive(Clone, Copy)]
 pub struct Reply {
     pub answer: Answer,
     pub roster: Roster,
 }
 
 // The answer to a job that is offered; the places with it, or as they are; and the totals with it, or none.
-#[derive(Drop)]
+#[derive(Clone, Copy)]
 pub struct Offering {
     pub answer: Answer,
     pub jobs: [Job; 64],

@@ -1,5 +1,7 @@
 // The slack calls: frame 83 of a roster's plan on a page, and the slack with a job that is not held yet, as numbers. The definitions are in
 // specs/.
+#![tactic(auto)]
+
 ghost use Rattle.std.specs.Prelude.{◌≡◌, ◌≤◌, ◌<◌, take};
 ghost use Rattle.std.proofs.Math.IntN.{sub_ℕ};
 ghost use Rattle.gmf.specs.Machine.{InRange};
@@ -23,7 +25,7 @@ use slack_writer::write_slack;
 use workload::Totals;
 
 // The slack of tests 1 to m, with zeros after it; on a refusal all are zeros.
-#[derive(Drop)]
+#[derive(Clone, Copy)]
 pub struct SlackAnswer {
     pub answer: Answer,
     pub ticks: [i64; 32],

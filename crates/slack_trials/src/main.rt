@@ -2,6 +2,8 @@
 // library call is asked for the slack with its job, and the answer is printed; nothing else is. What is beyond 65,536 bytes is not read.
 // The file `stdout` has what must be printed for the sheet in `stdin`. It is worked out from 01 and 02 by hand: the reason of each result stands
 // in the sheet, where a line of words is a malformed line.
+#![tactic(auto)]
+
 mod print;
 
 use calls::call_frame;

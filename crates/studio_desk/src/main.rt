@@ -1,4 +1,6 @@
 // The desk program: reads a sheet on standard input and writes its frames to standard output, and nothing else.
+#![tactic(auto)]
+
 ghost use Rattle.std.specs.Prelude.{◌≡◌, ◌≤◌, length};
 ghost use Rattle.studio_desk.specs.Input.{bytes_in};
 
@@ -13,7 +15,7 @@ fn room() -> [u8; 65537]
 }
 
 // How many bytes the input has, as far as there is room, or that a read failed.
-#[derive(Drop)]
+#[derive(Clone, Copy)]
 enum Input {
     Bytes(usize),
     Failed,

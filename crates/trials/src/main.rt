@@ -1,6 +1,8 @@
 // Makes calls on rosters, good and damaged, and prints what comes of each. A line has the call and the number of its answer: 0, or that of
 // the refusal. Where the roster that comes back is not the one handed in, the line says `changed`.
 // The file `stdout` has what must be printed. It is worked out from 01 and 02 by hand: the reason of each result stands at its trial.
+#![tactic(auto)]
+
 mod by_hand;
 mod calls;
 mod compare;

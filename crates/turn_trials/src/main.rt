@@ -3,6 +3,8 @@
 // no job's id is 0.
 // The file `stdout` has what must be printed for the sheet in `stdin`. It is worked out by hand: the works stand in the sheet, where a line of words is
 // a malformed line.
+#![tactic(auto)]
+
 use desk::Desk;
 use libc::{STDIN_FILENO, STDOUT_FILENO};
 use planner::Roster;
