@@ -1,0 +1,11 @@
+-- `frame_kinds::admit` meets its contract: the numbers are those of its fields' widths.
+use mathlib.Core.Path.{◌∙◌}
+use native.Mathlib.Omega.{arith}
+use Rattle.frame_kinds.proofs.Readings.{admit_right, admit_wrong}
+use Rattle.frame_kinds.proofs.admit.Goals as goal
+
+pub returns-then-rest-ne-ADMIT_BYTES : goal.returns-then-rest-ne-ADMIT_BYTES
+returns-then-rest-ne-ADMIT_BYTES c = c.alone.ensures ∙ admit_wrong _ c.if-rest-ne-ADMIT_BYTES.true
+
+pub returns : goal.returns
+returns c = c.alone-2.ensures ∙ admit_right _ _ _ _ (omega arith) c.two.ensures c.two-2.ensures c.two-3.ensures

@@ -1,0 +1,57 @@
+-- `frame_kinds::read_bytes` meets its contract: one arm for each kind, and one for those that are none.
+use mathlib.Core.Path.{◌≡◌, refl, ap, ◌∙◌}
+use mathlib.Core.Logic.{inl, inr, ⊎_elim}
+use Prim.Native.Nat.{ℕ, ◌≤◌, ◌<◌}
+use native.Mathlib.Omega.{arith}
+use lib.ListN.{get_or}
+use Rattle.frame_kinds.specs.Frames.{kind_of, said_as, said_with, reading_of}
+use Rattle.frame_kinds.proofs.Readings.{no_bytes, some_bytes, unknown_kind}
+use Rattle.frame_kinds.proofs.read_bytes.Goals as goal
+
+pub returns-then-bytes-eq0 : goal.returns-then-bytes-eq0
+returns-then-bytes-eq0 c = c.alone.ensures ∙ no_bytes _ (omega arith)
+
+pub returns-in-1 : goal.returns-in-1
+returns-in-1 c = c.machine.ensures ∙ ap reading_of (some_bytes _ 1 (omega arith) c.in-1.keys1)
+
+pub returns-in-2 : goal.returns-in-2
+returns-in-2 c = c.power.ensures ∙ ap reading_of (some_bytes _ 2 (omega arith) c.in-2.keys2)
+
+pub returns-in-3 : goal.returns-in-3
+returns-in-3 c = c.admit.ensures ∙ ap reading_of (some_bytes _ 3 (omega arith) c.in-3.keys3)
+
+pub returns-in-4 : goal.returns-in-4
+returns-in-4 c = c.retire.ensures ∙ ap reading_of (some_bytes _ 4 (omega arith) c.in-4.keys4)
+
+pub returns-in-5 : goal.returns-in-5
+unfolding kind_of
+returns-in-5 c = c.wanted.ensures 5 refl ∙ ap reading_of (some_bytes _ 5 (omega arith) c.in-5.keys5)
+
+pub returns-in-6 : goal.returns-in-6
+returns-in-6 c = c.admit_due_law.ensures ∙ ap reading_of (some_bytes _ 6 (omega arith) c.in-6.keys6)
+
+pub returns-in-7 : goal.returns-in-7
+unfolding kind_of
+returns-in-7 c = c.wanted-in-7.ensures 7 refl ∙ ap reading_of (some_bytes _ 7 (omega arith) c.in-7.keys7)
+
+-- A number that is at least k and is not k.
+past : {k n : ℕ} → k ≤ n → (n ≡ k → ⊥) → k < n
+past h other = omega arith
+
+pub returns-in-0 : goal.returns-in-0
+returns-in-0 c =
+    let frame = c.args.bytes.now in
+    let kind = get_or frame 0 0 in
+    let same : reading_of (said_as kind _) ≡ reading_of (said_with frame) = ap reading_of (some_bytes frame kind (omega arith) refl) in
+    c.alone-in-0.ensures
+    ∙ unknown_kind kind _
+    (⊎_elim
+    (λ k. inl k.keys8)
+    (λ m.
+    let r = m.rest-1 in
+    let first : 0 ≤ kind = omega arith in
+    let three : 2 < kind = past (past (past first r.1) r.0.0.0.0.0.0.0.1) r.0.0.0.0.0.0.1 in
+    let six : 5 < kind = past (past (past three r.0.0.0.0.0.1) r.0.0.0.0.1) r.0.0.0.1 in
+    inr (past (past six r.0.0.1) r.0.1))
+    c.in-0-1.branch)
+    ∙ same
