@@ -12,27 +12,27 @@ pub returns-then-bytes-eq0 : goal.returns-then-bytes-eq0
 returns-then-bytes-eq0 c = c.alone.ensures ∙ no_bytes _ (omega arith)
 
 pub returns-in-1 : goal.returns-in-1
-returns-in-1 c = c.machine.ensures ∙ ap reading_of (some_bytes _ 1 (omega arith) c.in-1.keys1)
+returns-in-1 c = c.machine.ensures ∙ ap reading_of (some_bytes _ 1 (omega arith) c.in-1.is)
 
 pub returns-in-2 : goal.returns-in-2
-returns-in-2 c = c.power.ensures ∙ ap reading_of (some_bytes _ 2 (omega arith) c.in-2.keys2)
+returns-in-2 c = c.power.ensures ∙ ap reading_of (some_bytes _ 2 (omega arith) c.in-2.is)
 
 pub returns-in-3 : goal.returns-in-3
-returns-in-3 c = c.admit.ensures ∙ ap reading_of (some_bytes _ 3 (omega arith) c.in-3.keys3)
+returns-in-3 c = c.admit.ensures ∙ ap reading_of (some_bytes _ 3 (omega arith) c.in-3.is)
 
 pub returns-in-4 : goal.returns-in-4
-returns-in-4 c = c.retire.ensures ∙ ap reading_of (some_bytes _ 4 (omega arith) c.in-4.keys4)
+returns-in-4 c = c.retire.ensures ∙ ap reading_of (some_bytes _ 4 (omega arith) c.in-4.is)
 
 pub returns-in-5 : goal.returns-in-5
 unfolding kind_of
-returns-in-5 c = c.wanted.ensures 5 refl ∙ ap reading_of (some_bytes _ 5 (omega arith) c.in-5.keys5)
+returns-in-5 c = c.wanted.ensures 5 refl ∙ ap reading_of (some_bytes _ 5 (omega arith) c.in-5.is)
 
 pub returns-in-6 : goal.returns-in-6
-returns-in-6 c = c.admit_due_law.ensures ∙ ap reading_of (some_bytes _ 6 (omega arith) c.in-6.keys6)
+returns-in-6 c = c.admit_due_law.ensures ∙ ap reading_of (some_bytes _ 6 (omega arith) c.in-6.is)
 
 pub returns-in-7 : goal.returns-in-7
 unfolding kind_of
-returns-in-7 c = c.wanted-in-7.ensures 7 refl ∙ ap reading_of (some_bytes _ 7 (omega arith) c.in-7.keys7)
+returns-in-7 c = c.wanted-in-7.ensures 7 refl ∙ ap reading_of (some_bytes _ 7 (omega arith) c.in-7.is)
 
 -- A number that is at least k and is not k.
 past : {k n : ℕ} → k ≤ n → (n ≡ k → ⊥) → k < n

@@ -1,7 +1,7 @@
 -- `ranges::job_fits` meets its contract.
+use mathlib.Core.Bool.{not}
 use native.Mathlib.Omega.{arith}
-use mathlib.Core.Path.{◌∙◌}
-use borrow.Author.Rules.{rules}
+use mathlib.Core.Path.{◌∙◌, ap}
 use Rattle.ranges.proofs.Answers.{told, passes, fails, unfit_id, unfit_cost, unfit_period, fits_by_deadline}
 use Rattle.ranges.proofs.job_fits.Goals as goal
 

@@ -1,8 +1,7 @@
 -- `ranges::speeds_fit` meets its contract.
 use native.Mathlib.Omega.{arith}
-use mathlib.Core.Path.{◌≡◌, sym, ◌∙◌}
-use mathlib.Core.Bool.{true}
-use borrow.Author.Rules.{rules}
+use mathlib.Core.Path.{◌≡◌, sym, ◌∙◌, ap}
+use mathlib.Core.Bool.{true, not}
 use borrow.Author.Tests.{not-true, not-false}
 use Rattle.ranges.specs.Ranges.{one_to}
 use Rattle.ranges.proofs.Speeds.{speeds_1, speeds_2, speeds_3, speeds_4, speeds_small}

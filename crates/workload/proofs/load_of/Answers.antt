@@ -69,8 +69,16 @@ turn c =
 pub loop-i-preserved : goal.loop-i-preserved
 loop-i-preserved c =
     let w = c.before.before.before in
-    let s = says_within _ c.next-1.given.0.0 (sym (turn w) ∙ c.next-1.given.1) in
+    let s = says_within _ c.in-Within.more (sym (turn w) ∙ c.in-Within.is) in
     (omega arith, s.0, s.1)
+
+pub returns-in-TooLong : goal.returns-in-TooLong
+returns-in-TooLong c =
+    let w = c.before.before in
+    let s = w.before.before.before.before in
+    let all = take s.args.held s.args.jobs in
+    sym (load_above all (above_drop (w.loop-i.i - 1) all (in_range_positive all s.requires.1)
+    (says_too_long _ (sym (turn w) ∙ c.in-TooLong.is))))
 
 pub returns : goal.returns
 returns c =

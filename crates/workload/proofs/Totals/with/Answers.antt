@@ -54,19 +54,19 @@ returns-then-rest-eq0 c =
 
 pub nonzero_div-factor : goal.nonzero_div-factor
 nonzero_div-factor c =
-    let s = start (c.before.before.before) in
-    common_pos s.args.self s.args.job s.requires.job_in_range s.requires.hyperperiod_nonzero.0 _ (window-is (c.before.before.before)) _ c.gcd-common.ensures
+    let s = c.before.before.before.before.before in
+    common_pos s.args.self s.args.job s.requires.job_in_range s.requires.hyperperiod_nonzero.0 _ (window-is c.before.before.before) _ c.gcd-common.ensures
 
 factor : (c : After-gcd-common) → c.window-window.result / c.gcd-common.result ≤ 65535
 factor c =
-    let s = start (c.before.before.before) in
-    factor_bound s.args.self s.args.job s.requires.job_in_range s.requires.hyperperiod_nonzero.0 _ (window-is (c.before.before.before)) _ c.gcd-common.ensures
+    let s = c.before.before.before.before.before in
+    factor_bound s.args.self s.args.job s.requires.job_in_range s.requires.hyperperiod_nonzero.0 _ (window-is c.before.before.before) _ c.gcd-common.ensures
 
 pub overflow_cast-factor : goal.overflow_cast-factor
 overflow_cast-factor c = omega (arith, factor c)
 
 pub overflow_mul-longer : goal.overflow_mul-longer
-overflow_mul-longer c = omega (arith, mul-le-mul (start (c.before.before.before)).requires.hyperperiod_nonzero.1 (factor c))
+overflow_mul-longer c = omega (arith, mul-le-mul c.requires.hyperperiod_nonzero.1 (factor c))
 
 pub returns-then-longer-gt-HYPERPERIOD_LIMIT : goal.returns-then-longer-gt-HYPERPERIOD_LIMIT
 returns-then-longer-gt-HYPERPERIOD_LIMIT c =
@@ -75,9 +75,9 @@ returns-then-longer-gt-HYPERPERIOD_LIMIT c =
     with_too_long s.args.self s.args.job s.requires.job_in_range s.requires.hyperperiod_nonzero.0 _ (window-is j) _ c.gcd-common.ensures c.if-longer-gt-HYPERPERIOD_LIMIT.true
 
 -- The earlier jobs' works stay within their bound: it grows by the same factor.
-scaled : (c : Else-longer-gt-HYPERPERIOD_LIMIT) → (start (c.before.before.before.before)).args.self.work * (c.window-window.result / c.gcd-common.result) ≤ 63 * 65535 * hyperperiod_limit
+scaled : (c : Else-longer-gt-HYPERPERIOD_LIMIT) → c.args.self.work * (c.window-window.result / c.gcd-common.result) ≤ 63 * 65535 * hyperperiod_limit
 scaled c =
-    let s = start (c.before.before.before.before) in
+    let s = c.before.before.before.before.before.before in
     let f = c.window-window.result / c.gcd-common.result in
     omega (arith, mul-le-mul_right f s.requires.hyperperiod_nonzero.2, c.if-longer-gt-HYPERPERIOD_LIMIT.false)
 
@@ -86,20 +86,20 @@ overflow_mul-work-2 c = omega (arith, scaled c.before)
 
 -- Of the hyperperiod's parts, by the common divisor and by the window.
 parts : (c : After-gcd-common) →
-    let h = (start (c.before.before.before)).args.self.hyperperiod in
+    let h = c.args.self.hyperperiod in
     let w = c.window-window.result in
     (h / c.gcd-common.result ≤ h) × (h / w ≤ h)
 parts c = (div-le_self _ c.gcd-common.result, div-le_self _ c.window-window.result)
 
 shares : (c : After-gcd-common) →
-    let s = start (c.before.before.before) in
+    let s = c.before.before.before.before.before in
     let h = s.args.self.hyperperiod in
     let w = c.window-window.result in
     (s.args.job.cost * (h / c.gcd-common.result) ≤ 65535 * h) × (s.args.job.cost * (h / w) ≤ 65535 * h)
-shares c = (share (c.before.before.before) c.gcd-common.result, share (c.before.before.before) c.window-window.result)
+shares c = (share c.before.before.before c.gcd-common.result, share c.before.before.before c.window-window.result)
 
 pub nonzero_div-work-2 : goal.nonzero_div-work-2
-nonzero_div-work-2 c = omega (arith, nonzero_div-factor c.before.before, positive (c.before.before.before.before.before))
+nonzero_div-work-2 c = omega (arith, nonzero_div-factor c.before.before, positive c.before.before.before.before.before)
 
 pub overflow_cast-work-2 : goal.overflow_cast-work-2
 overflow_cast-work-2 c = omega (arith, parts c.before.before)
@@ -113,5 +113,5 @@ overflow_add-work-2 c = omega (arith, scaled c.before, shares c.before.before)
 pub returns : goal.returns
 returns c =
     let g = c.before.before in
-    let s = start (g.before.before.before) in
-    with_longer s.args.self s.args.job s.requires.job_in_range s.requires.hyperperiod_nonzero.0 _ (window-is (g.before.before.before)) _ g.gcd-common.ensures _ (fit_is (g.before.before.before)) c.if-longer-gt-HYPERPERIOD_LIMIT.false
+    let s = g.before.before.before.before.before in
+    with_longer s.args.self s.args.job s.requires.job_in_range s.requires.hyperperiod_nonzero.0 _ (window-is g.before.before.before) _ g.gcd-common.ensures _ (fit_is g.before.before.before) c.if-longer-gt-HYPERPERIOD_LIMIT.false

@@ -1,0 +1,29 @@
+-- `workload::Load::judge` meets its contract.
+use Prim.Native.Nat.{◌≤◌}
+use mir.Val.{Fits}
+use mir.Syntax.{w8, w32}
+use native.Mathlib.Nat.{mul-le-mul}
+use native.Mathlib.Omega.{arith}
+use mathlib.Core.Logic.{⊎_elim}
+use borrow.Author.Rules.{rules}
+use Rattle.workload.proofs.Verdicts.{judged_some, judged_unfit, judged_much, judged_long}
+use Rattle.workload.proofs.Load.judge.Goals as goal
+
+pub overflow_mul-room : goal.overflow_mul-room
+overflow_mul-room c =
+    let m : Fits w8 c.args.processors = search rules in
+    let h : Fits w32 c.in-Within.totals.hyperperiod = search rules in
+    let m≤ : c.args.processors ≤ 255 = omega (arith, m.fits) in
+    let h≤ : c.in-Within.totals.hyperperiod ≤ 4294967295 = omega (arith, h.fits) in
+    omega (arith, mul-le-mul m≤ h≤)
+
+pub returns-then-totals-room : goal.returns-then-totals-room
+returns-then-totals-room c = let t = c.before.before.before.before.before in judged_some _ _ _ t.in-Within.is c.if-totals.true c.if-totals-room.true
+
+pub returns-else-totals : goal.returns-else-totals
+returns-else-totals c =
+    let e = c.in-Within.is in
+    ⊎_elim (λ w. judged_much _ _ _ e w.0.taken w.2.left) (λ w. judged_unfit _ _ _ e w.left) c.else-totals.branch
+
+pub returns-in-TooLong : goal.returns-in-TooLong
+returns-in-TooLong c = judged_long _ _ c.in-TooLong.is
