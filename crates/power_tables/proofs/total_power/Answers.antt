@@ -1,5 +1,5 @@
 -- `power_tables::total_power` meets its contract: after k turns the sum is the power of the first k levels, and at most k times the limit.
-use Prim.Native.Nat.{ℕ, ◌+◌, ◌-◌, ◌*◌, ◌^◌, ◌≤◌, ◌<◌}
+use Prim.Native.Nat.{ℕ, ◌+◌, ◌*◌, ◌^◌, ◌≤◌, ◌<◌}
 use native.Mathlib.Numerals.{add-one}
 use native.Mathlib.Omega.{arith}
 use mathlib.Core.Path.{◌≡◌}
@@ -7,25 +7,25 @@ use lib.ListN.{length}
 use borrow.Author.Rules.{rules}
 use Rattle.gmf.specs.Capacity.{level}
 use Rattle.gmf.specs.Power.{power_limit, total}
-use Rattle.gmf.proofs.Majorization.{drawn, drawn_suc}
-use Rattle.power_tables.proofs.total_power.Goals.{In-loop-k, Start}
+use Rattle.gmf.proofs.Majorization.{drawn_suc}
+use Rattle.power_tables.proofs.total_power.Goals.{Start}
 use Rattle.power_tables.proofs.total_power.Goals as goal
 
 pub loop-k-init : goal.loop-k-init
 loop-k-init c = (omega arith, omega arith, omega arith)
 
 -- The level that a turn reads is one of the table.
-within : (c : In-loop-k) → level c.args.levels c.loop-k.k < 32
-within c = c.requires.by_index c.loop-k.k (omega arith)
+within : (c : Start) (k : ℕ) → k < c.args.processors → level c.args.levels k < 32
+within c k h = c.requires.by_index k h
 
 pub overflow_cast-level : goal.overflow_cast-level
-overflow_cast-level c = omega (arith, within c)
+overflow_cast-level c = omega (arith, within c.before.before c.loop-k.k (omega arith))
 
 pub offset_bounds-table-level : goal.offset_bounds-table-level
-offset_bounds-table-level c = omega (arith, within c)
+offset_bounds-table-level c = omega (arith, within c.before.before c.loop-k.k (omega arith))
 
 pub bounds-table-level : goal.bounds-table-level
-bounds-table-level c = omega (arith, within c)
+bounds-table-level c = omega (arith, within c.before.before c.loop-k.k (omega arith))
 
 -- One more power leaves the sum at most so many times the limit.
 kept : {n s p : ℕ} → n < 32 → s ≤ n * power_limit → p ≤ power_limit → (s + p ≤ (n + 1) * power_limit) × (s + p < 2 ^ 32)

@@ -1,13 +1,8 @@
 -- `power_tables::total_power` meets its contract: after k turns the sum is the power of the first k levels, and at most k times the limit.
-use Prim.Native.Nat.{ℕ, ◌+◌, ◌-◌, ◌*◌, ◌^◌, ◌≤◌, ◌<◌}
-use native.Mathlib.Numerals.{add-one}
-use native.Mathlib.Omega.{arith}
+use Prim.Native.Nat.{◌-◌, ◌*◌, ◌≤◌}
 use mathlib.Core.Path.{◌≡◌}
-use lib.ListN.{length}
-use borrow.Author.Rules.{rules}
-use Rattle.gmf.specs.Capacity.{level}
-use Rattle.gmf.specs.Power.{power_limit, total}
-use Rattle.gmf.proofs.Majorization.{drawn, drawn_suc}
+use Rattle.gmf.specs.Power.{power_limit}
+use Rattle.gmf.proofs.Majorization.{drawn}
 use Rattle.power_tables.proofs.total_power.Given as goal
 
 abbrev pub invariant-loop-k : goal.invariant-loop-k

@@ -6,13 +6,14 @@ use mathlib.Core.List.{List, ◌∷◌}
 use borrow.Author.Rules.{rules}
 use lib.ListN.{length, get_or, take, drop}
 use Rattle.gmf.specs.declared.Job.{Job}
-use Rattle.gmf.specs.Jobs.{JobInRange, Every, hyperperiod, hyperperiod_limit, works}
+use Rattle.gmf.specs.Jobs.{JobInRange, Every, hyperperiod, works}
 use Rattle.gmf.proofs.Suffixes.{suffix_more, suffix_none, suffix_length}
 use Rattle.gmf.proofs.Hyperperiod.{in_range_positive}
 use Rattle.workload.specs.Load.{costs_fit, totals, load_of, with_job}
 use Rattle.workload.specs.declared.Load.TheVariants.{Within}
 use Rattle.workload.proofs.Loads.{load_more, every_drop, above_drop, load_within, load_above, says_within, says_too_long, totals_range}
 use Rattle.workload.proofs.load_of.Goals.{After-with-next, At-loop-i, In-loop-i, Start}
+use Rattle.workload.specs.declared.Load.{Load}
 use Rattle.workload.proofs.load_of.Goals as goal
 
 -- What a read past the end would give.
@@ -49,36 +50,34 @@ pub with-next-requires : goal.with-next-requires
 with-next-requires c =
     let i = c.before in
     let o = i.before in
-    let v = o.loop-i.invariant in (
-      (subst (Every JobInRange) (more i) (in_range_law o (o.loop-i.i - 1))).0,
-      totals_range o.loop-i.totals (rest o o.loop-i.i) v.1 (in_range_law o o.loop-i.i)
+    let v = o.loop-i.invariant in record {
+      job_in_range = (subst (Every JobInRange) (more i) (in_range_law o (o.loop-i.i - 1))).0;
+      hyperperiod_nonzero = totals_range o.loop-i.totals (rest o o.loop-i.i) v.1 (in_range_law o o.loop-i.i)
           (omega (arith, suffix_length none o.args.held o.args.jobs (long o.before) o.loop-i.i))
-          v.2,
-    )
+          v.2;
+    }
 
 -- What a turn finds is the load of the jobs from j − 1 on.
-turn : (c : After-with-next) → c.with-next.result ≡ load_of (rest c.before.before.before (c.loop-i.i - 1))
-turn c =
-    let i = c.before.before in
+turn : (i : In-loop-i) (next : Load) → next ≡ with_job i.loop-i.totals (job_at_law i.before) → next ≡ load_of (rest i.before (i.loop-i.i - 1))
+turn i next e =
     let o = i.before in
-    c.with-next.ensures
+    e
     ∙ ap (λ t. with_job t (job_at_law o)) o.loop-i.invariant.1
     ∙ sym (load_more (job_at_law o) (rest o o.loop-i.i))
     ∙ ap load_of (sym (more i))
 
 pub loop-i-preserved : goal.loop-i-preserved
 loop-i-preserved c =
-    let w = c.before.before.before in
-    let s = says_within _ c.in-Within.more (sym (turn w) ∙ c.in-Within.is) in
+    let o = c.before.before.before in
+    let s = says_within _ c.in-Within.more (sym (turn o _ c.with-next.ensures) ∙ c.in-Within.is) in
     (omega arith, s.0, s.1)
 
 pub returns-in-TooLong : goal.returns-in-TooLong
 returns-in-TooLong c =
-    let w = c.before.before in
-    let s = w.before.before.before.before in
-    let all = take s.args.held s.args.jobs in
-    sym (load_above all (above_drop (w.loop-i.i - 1) all (in_range_positive all s.requires.1)
-    (says_too_long _ (sym (turn w) ∙ c.in-TooLong.is))))
+    let o = c.before.before.before in
+    let all = take c.args.held c.args.jobs in
+    sym (load_above all (above_drop (c.loop-i.i - 1) all (in_range_positive all c.requires.1)
+    (says_too_long _ (sym (turn o _ c.with-next.ensures) ∙ c.in-TooLong.is))))
 
 pub returns : goal.returns
 returns c =

@@ -4,9 +4,10 @@ use mir.Val.{Fits}
 use mir.Syntax.{w8, w32}
 use native.Mathlib.Nat.{mul-le-mul}
 use native.Mathlib.Omega.{arith}
-use mathlib.Core.Logic.{⊎_elim}
 use borrow.Author.Rules.{rules}
 use Rattle.workload.proofs.Verdicts.{judged_some, judged_unfit, judged_much, judged_long}
+use borrow.Author.Tests.{le-leb, lt-leb}
+use Rattle.workload.proofs.Load.judge.Goals.{else-totals-via-then-totals+else-totals-room, else-totals-via-else-totals}
 use Rattle.workload.proofs.Load.judge.Goals as goal
 
 pub overflow_mul-room : goal.overflow_mul-room
@@ -18,12 +19,15 @@ overflow_mul-room c =
     omega (arith, mul-le-mul m≤ h≤)
 
 pub returns-then-totals-room : goal.returns-then-totals-room
-returns-then-totals-room c = let t = c.before.before.before.before.before in judged_some _ _ _ t.in-Within.is c.if-totals.true c.if-totals-room.true
+returns-then-totals-room c = judged_some _ _ _ c.in-Within.is c.if-totals.true (le-leb _ _ c.if-totals-room.true)
 
 pub returns-else-totals : goal.returns-else-totals
 returns-else-totals c =
     let e = c.in-Within.is in
-    ⊎_elim (λ w. judged_much _ _ _ e w.0.taken w.2.left) (λ w. judged_unfit _ _ _ e w.left) c.else-totals.branch
+    elim c.else-totals.branch [
+      | else-totals-via-then-totals+else-totals-room w ↦ judged_much _ _ _ e w.if-totals.true (lt-leb _ _ w.if-totals-room.false)
+      | else-totals-via-else-totals w ↦ judged_unfit _ _ _ e w.if-totals.false
+    ]
 
 pub returns-in-TooLong : goal.returns-in-TooLong
 returns-in-TooLong c = judged_long _ _ c.in-TooLong.is

@@ -3,14 +3,11 @@ use Prim.Native.Nat.{ℕ, ◌*◌, ◌/◌, ◌≤◌, ◌<◌}
 use native.Mathlib.Nat.{div-le_self, mul-le-mul, mul-le-mul_right}
 use native.Mathlib.Omega.{arith}
 use mathlib.Core.Path.{◌≡◌, ap, sym, ◌∙◌}
-use mathlib.Core.Logic.{⊎_elim}
 use mathlib.Core.Bool.{◌&&◌}
 use lib.Dec.{leb}
-use borrow.Author.Rules.{rules}
-use Rattle.number.specs.Divisors.{gcd}
 use Rattle.gmf.specs.Jobs.{window, hyperperiod_limit}
 use Rattle.workload.proofs.Loads.{window_pos, common_pos, with_same, with_longer, with_too_long, share_bound, factor_bound}
-use Rattle.workload.proofs.Totals.with.Goals.{After-gcd-common, Else-longer-gt-HYPERPERIOD_LIMIT, Joined-self}
+use Rattle.workload.proofs.Totals.with.Goals.{After-gcd-common, Else-longer-gt-HYPERPERIOD_LIMIT, Joined-self, then-self, else-self}
 use Rattle.workload.proofs.Totals.with.Goals as goal
 
 window-is : (c : Joined-self) → c.window-window.result ≡ window c.args.job
@@ -19,10 +16,10 @@ window-is c = c.window-window.ensures
 fit_is : (c : Joined-self) → c.if-self.fit ≡ (c.args.self.fit && leb c.args.job.cost (window c.args.job))
 fit_is c =
     let m = leb c.args.job.cost (window c.args.job) in
-    ⊎_elim
-    (λ w. w.2 ∙ ap (leb c.args.job.cost) (window-is c) ∙ sym (ap (λ b. b && m) w.0.taken))
-    (λ w. w.1 ∙ w.0.left ∙ sym (ap (λ b. b && m) w.0.left))
-    c.if-self.branch
+    elim c.if-self.branch [
+      | then-self w ↦ w.fit-is ∙ ap (leb c.args.job.cost) (window-is c) ∙ sym (ap (λ b. b && m) w.if-self.true)
+      | else-self w ↦ w.fit-is ∙ w.if-self.false ∙ sym (ap (λ b. b && m) w.if-self.false)
+    ]
 
 positive : (c : Joined-self) → 0 < c.window-window.result
 positive c = let s = c.before.before in window_pos s.args.self s.args.job s.requires.job_in_range s.requires.hyperperiod_nonzero.0 _ (window-is c)
