@@ -2,12 +2,8 @@
 -- constant's 257 numbers. What holds of every entry is then a law of the cubes (`Cubes`, proved in gmf's proofs/Tables.antt).
 use mathlib.Core.Path.{refl}
 use Rattle.gmf.specs.Power.{cube, tabulate, cubes}
-use Rattle.house_table.proofs.cubes.cube_table.Statement.{statement}
-use Rattle.house_table.proofs.cubes.cube_table.Tie as tie
+use Rattle.house_table.proofs.cubes.cube_table.Goals as goal
 
-returns : tie.Need-returns
+pub returns : goal.returns
 unfolding cubes tabulate cube
 returns c = refl
-
-pub cube_table_spec : {M : Type 1} → statement M
-cube_table_spec = tie.close (tie.spec returns)
