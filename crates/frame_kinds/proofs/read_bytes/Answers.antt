@@ -1,7 +1,5 @@
 -- `frame_kinds::read_bytes` meets its contract: one arm for each kind, and one for those that are none.
 use mathlib.Core.Path.{◌≡◌, refl, ap, ◌∙◌}
-use mathlib.Core.Logic.{inl, inr, ⊎_elim}
-use Prim.Native.Nat.{ℕ, ◌≤◌, ◌<◌}
 use native.Mathlib.Omega.{arith}
 use lib.ListN.{get_or}
 use Rattle.frame_kinds.specs.Frames.{kind_of, said_as, said_with, reading_of}
@@ -28,15 +26,11 @@ unfolding kind_of
 returns-in-5 c = c.wanted.ensures 5 refl ∙ ap reading_of (some_bytes _ 5 (omega arith) c.in-5.is)
 
 pub returns-in-6 : goal.returns-in-6
-returns-in-6 c = c.admit_due_law.ensures ∙ ap reading_of (some_bytes _ 6 (omega arith) c.in-6.is)
+returns-in-6 c = c.admit_due.ensures ∙ ap reading_of (some_bytes _ 6 (omega arith) c.in-6.is)
 
 pub returns-in-7 : goal.returns-in-7
 unfolding kind_of
 returns-in-7 c = c.wanted-in-7.ensures 7 refl ∙ ap reading_of (some_bytes _ 7 (omega arith) c.in-7.is)
-
--- A number that is at least k and is not k.
-past : {k n : ℕ} → k ≤ n → (n ≡ k → ⊥) → k < n
-past h other = omega arith
 
 pub returns-in-0 : goal.returns-in-0
 returns-in-0 c =
@@ -45,13 +39,5 @@ returns-in-0 c =
     let same : reading_of (said_as kind _) ≡ reading_of (said_with frame) = ap reading_of (some_bytes frame kind (omega arith) refl) in
     c.alone-in-0.ensures
     ∙ unknown_kind kind _
-    (⊎_elim
-    (λ k. inl k.keys8)
-    (λ m.
-    let r = m.rest-1 in
-    let first : 0 ≤ kind = omega arith in
-    let three : 2 < kind = past (past (past first r.1) r.0.0.0.0.0.0.0.1) r.0.0.0.0.0.0.1 in
-    let six : 5 < kind = past (past (past three r.0.0.0.0.0.1) r.0.0.0.0.1) r.0.0.0.1 in
-    inr (past (past six r.0.0.1) r.0.1))
-    c.in-0-1.branch)
+    (grind arith)
     ∙ same
