@@ -9,7 +9,5 @@ returns-then-rest-ne-ADMIT_DUE_BYTES c = c.alone.ensures ∙ admit_due_wrong _ c
 
 pub returns : goal.returns
 returns c =
-    let period = c.before.before.before.before in
-    let cost = period.before.before.before in
     c.alone-2.ensures
-    ∙ admit_due_right _ _ _ _ _ (omega arith) cost.two.ensures cost.two-2.ensures period.two-3.ensures c.two-4.ensures
+    ∙ admit_due_right _ _ _ _ _ (omega arith) c.two.ensures c.two-2.ensures c.two-3.ensures c.two-4.ensures
