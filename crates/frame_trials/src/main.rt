@@ -7,13 +7,15 @@ mod pages;
 mod print;
 mod sheets;
 
-fn main() {
-    lines::good();
-    lines::damaged();
-    lines::lengths();
-    lines::digits();
-    sheets::taken_apart();
-    pages::refusals();
-    pages::plans();
-    pages::slacks();
+use std::io;
+
+fn main(rt: HostRuntime) -> io::Result<()> {
+    lines::good(&rt)?;
+    lines::damaged(&rt)?;
+    lines::lengths(&rt)?;
+    lines::digits(&rt)?;
+    sheets::taken_apart(&rt)?;
+    pages::refusals(&rt)?;
+    pages::plans(&rt)?;
+    pages::slacks(&rt)
 }

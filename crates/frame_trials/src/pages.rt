@@ -1,68 +1,71 @@
 // Frames into pages. A page is printed between bars; it is lent with a dot in each byte.
 use crate::print;
 use line_writer::Placing;
+use std::io;
 
 // The reply's number, and the whole page.
-fn result(placing: Placing, page: &[u8]) {
+fn result(rt: &impl Print, placing: Placing, page: &[u8]) -> io::Result<()> {
     match placing {
-        Placing::Written => print::text(b"0 |"),
-        Placing::NoRoom => print::text(b"6 |"),
+        Placing::Written => print::text(rt, b"0 |")?,
+        Placing::NoRoom => print::text(rt, b"6 |")?,
     }
-    print::text(page);
-    print::text(b"|\n");
+    print::text(rt, page)?;
+    print::text(rt, b"|\n")
 }
 
 // Frame 8E for line 7 and refusal 17.
-fn write_refusal(page: &mut [u8], place: usize) {
+fn write_refusal(rt: &impl Print, page: &mut [u8], place: usize) -> io::Result<()> {
     let placing = frame_writer::write_refusal(7, 17, page, place);
-    result(placing, page);
+    result(rt, placing, page)
 }
 
 // The same, into a page of 20 bytes or fewer.
-fn refusal(length: usize, place: usize) {
+fn refusal(rt: &impl Print, length: usize, place: usize) -> io::Result<()> {
     let mut page = [b'.'; 20];
     if length <= 20 {
-        write_refusal(&mut page[..length], place);
+        write_refusal(rt, &mut page[..length], place)?;
     }
+    Ok(())
 }
 
 // The line is 8E0000000711 and its 0A, 13 bytes.
-pub fn refusals() {
+pub fn refusals(rt: &impl Print) -> io::Result<()> {
     // 0: from the start of the page, 7 bytes as lent after it
-    refusal(20, 0);
+    refusal(rt, 20, 0)?;
     // 0: from place 3, with 3 bytes as lent before it and 4 after
-    refusal(20, 3);
+    refusal(rt, 20, 3)?;
     // 0: it ends with the page; 6: the page from the place is a byte shorter than the line
-    refusal(20, 7);
-    refusal(20, 8);
+    refusal(rt, 20, 7)?;
+    refusal(rt, 20, 8)?;
     // 0 and 6: the same from the start of a page; a page of 12 bytes has no room for the 0A
-    refusal(13, 0);
-    refusal(12, 0);
+    refusal(rt, 13, 0)?;
+    refusal(rt, 12, 0)?;
     // 6: no byte is left at the place; the place is beyond the end; place and length are more than a number holds
-    refusal(20, 20);
-    refusal(20, 21);
-    refusal(20, 18_446_744_073_709_551_615);
+    refusal(rt, 20, 20)?;
+    refusal(rt, 20, 21)?;
+    refusal(rt, 20, 18_446_744_073_709_551_615)?;
     // 6: a page of no bytes
-    refusal(0, 0);
+    refusal(rt, 0, 0)
 }
 
 // Frame 81 for 5 jobs, H 10, power 163, 9 raises, levels 3 3 2 1.
-fn write_plan(page: &mut [u8], place: usize) {
+fn write_plan(rt: &impl Print, page: &mut [u8], place: usize) -> io::Result<()> {
     let levels = [3, 3, 2, 1];
     let placing = frame_writer::write_plan(5, 10, 163, 9, &levels, page, place);
-    result(placing, page);
+    result(rt, placing, page)
 }
 
 // The same, into a page of 40 bytes or fewer.
-fn plan(length: usize, place: usize) {
+fn plan(rt: &impl Print, length: usize, place: usize) -> io::Result<()> {
     let mut page = [b'.'; 40];
     if length <= 40 {
-        write_plan(&mut page[..length], place);
+        write_plan(rt, &mut page[..length], place)?;
     }
+    Ok(())
 }
 
 // Frame 81 with wide numbers and 32 levels.
-fn write_longest(page: &mut [u8]) {
+fn write_longest(rt: &impl Print, page: &mut [u8]) -> io::Result<()> {
     let mut levels = [31; 32];
     levels[0] = 255;
     levels[31] = 1;
@@ -75,32 +78,33 @@ fn write_longest(page: &mut [u8]) {
         page,
         0,
     );
-    result(placing, page);
+    result(rt, placing, page)
 }
 
 // The same, into a page of 89 bytes or fewer.
-fn longest(length: usize) {
+fn longest(rt: &impl Print, length: usize) -> io::Result<()> {
     let mut page = [b'.'; 89];
     if length <= 89 {
-        write_longest(&mut page[..length]);
+        write_longest(rt, &mut page[..length])?;
     }
+    Ok(())
 }
 
-pub fn plans() {
+pub fn plans(rt: &impl Print) -> io::Result<()> {
     // 0: 81050000000A000000A3000903030201 and its 0A, as 01 prints it: 33 bytes, with 2 as lent before it and 5 after
-    plan(40, 2);
+    plan(rt, 40, 2)?;
     // 0: it ends with the page; 6: it would end past it
-    plan(40, 7);
-    plan(40, 8);
+    plan(rt, 40, 7)?;
+    plan(rt, 40, 8)?;
     // 6: the head of the frame has no room
-    plan(20, 0);
+    plan(rt, 20, 0)?;
     // 0: n FF, H FFFFFFFF, power 12345678, raises FEDC, levels FF, thirty times 1F, 01: the longest frame 81, 89 bytes; 6: 88 bytes are one less
-    longest(89);
-    longest(88);
+    longest(rt, 89)?;
+    longest(rt, 88)
 }
 
 // Frame 83 for some of 32 tests: ticks −1 and remainder 3; 0123456789ABCDEF and 255; the least number and 0; the largest and 1; then 0 and 2.
-fn write_slack(count: usize, page: &mut [u8], place: usize) {
+fn write_slack(rt: &impl Print, count: usize, page: &mut [u8], place: usize) -> io::Result<()> {
     let mut ticks = [0i64; 32];
     ticks[0] = -1;
     ticks[1] = 81_985_529_216_486_895;
@@ -112,37 +116,38 @@ fn write_slack(count: usize, page: &mut [u8], place: usize) {
     remainders[2] = 0;
     remainders[3] = 1;
     let placing = slack_writer::write_slack(ticks, remainders, count, page, place);
-    result(placing, page);
+    result(rt, placing, page)
 }
 
 // The same, into a page of 580 bytes or fewer.
-fn slack(count: usize, length: usize, place: usize) {
+fn slack(rt: &impl Print, count: usize, length: usize, place: usize) -> io::Result<()> {
     let mut page = [b'.'; 580];
     if length <= 580 {
-        write_slack(count, &mut page[..length], place);
+        write_slack(rt, count, &mut page[..length], place)?;
     }
+    Ok(())
 }
 
 // A line of n tests has 18 n + 3 bytes.
-pub fn slacks() {
+pub fn slacks(rt: &impl Print) -> io::Result<()> {
     // 0: 83, FFFFFFFFFFFFFFFF 03 and the 0A, 21 bytes, with 1 as lent before it and 2 after
-    slack(1, 24, 1);
+    slack(rt, 1, 24, 1)?;
     // 0: it ends with the page; 6: it would end past it
-    slack(1, 24, 3);
-    slack(1, 24, 4);
+    slack(rt, 1, 24, 3)?;
+    slack(rt, 1, 24, 4)?;
     // 0: no test, 83 and the 0A; 6: no room for the 0A
-    slack(0, 3, 0);
-    slack(0, 2, 0);
+    slack(rt, 0, 3, 0)?;
+    slack(rt, 0, 2, 0)?;
     // 0: 83, FFFFFFFFFFFFFFFF 03, 0123456789ABCDEF FF, 8000000000000000 00, 7FFFFFFFFFFFFFFF 01: 75 bytes
-    slack(4, 75, 0);
+    slack(rt, 4, 75, 0)?;
     // 6, 0, 0: the longest frame, with 28 times 0000000000000000 02 after these: 579 bytes on a page of one less, of as many and of one more
-    slack(32, 578, 0);
-    slack(32, 579, 0);
-    slack(32, 580, 0);
+    slack(rt, 32, 578, 0)?;
+    slack(rt, 32, 579, 0)?;
+    slack(rt, 32, 580, 0)?;
     // 0: from place 1 to the end of the page; 6: the place is the page's end
-    slack(32, 580, 1);
-    slack(32, 580, 580);
+    slack(rt, 32, 580, 1)?;
+    slack(rt, 32, 580, 580)?;
     // 0: a count beyond the tests is that of all
-    slack(33, 579, 0);
-    slack(18_446_744_073_709_551_615, 579, 0);
+    slack(rt, 33, 579, 0)?;
+    slack(rt, 18_446_744_073_709_551_615, 579, 0)
 }

@@ -1,76 +1,76 @@
 // What the trials print.
 use frame_kinds::{Frame, Reading};
-use libc::STDOUT_FILENO;
+use std::io;
 
-pub fn text(bytes: &[u8]) {
-    io::write_all(STDOUT_FILENO, bytes);
+pub fn text(rt: &impl Print, bytes: &[u8]) -> io::Result<()> {
+    rt.write_all(bytes)
 }
 
 // A blank and a number.
-pub fn number(n: u64) {
-    text(b" ");
-    io::print_decimal(STDOUT_FILENO, n);
+pub fn number(rt: &impl Print, n: u64) -> io::Result<()> {
+    print!(rt; " {n}")
 }
 
 // The 32 values beside a power frame.
-fn values(beside: [u32; 32]) {
+fn values(rt: &impl Print, beside: [u32; 32]) -> io::Result<()> {
     for i in 0..32 {
-        number(beside[i] as u64);
+        number(rt, beside[i] as u64)?;
     }
+    Ok(())
 }
 
 // A job, with its period for its deadline.
-fn job(id: u16, cost: u16, period: u16) {
-    text(b"admit");
-    number(id as u64);
-    number(cost as u64);
-    number(period as u64);
+fn job(rt: &impl Print, id: u16, cost: u16, period: u16) -> io::Result<()> {
+    text(rt, b"admit")?;
+    number(rt, id as u64)?;
+    number(rt, cost as u64)?;
+    number(rt, period as u64)
 }
 
 // A job with a deadline of its own.
-fn due(id: u16, cost: u16, period: u16, deadline: u16) {
-    job(id, cost, period);
-    text(b" due");
-    number(deadline as u64);
+fn due(rt: &impl Print, id: u16, cost: u16, period: u16, deadline: u16) -> io::Result<()> {
+    job(rt, id, cost, period)?;
+    text(rt, b" due")?;
+    number(rt, deadline as u64)
 }
 
 // A line for what was read.
-pub fn reading(got: Reading) {
+pub fn reading(rt: &impl Print, got: Reading) -> io::Result<()> {
     let frame = got.frame;
     let beside = got.values;
     match frame {
-        Frame::Malformed => text(b"malformed"),
+        Frame::Malformed => text(rt, b"malformed")?,
         Frame::Machine {
             processors,
             levels,
             lowest,
             step,
         } => {
-            text(b"machine");
-            number(processors as u64);
-            number(levels as u64);
-            number(lowest as u64);
-            number(step as u64);
+            text(rt, b"machine")?;
+            number(rt, processors as u64)?;
+            number(rt, levels as u64)?;
+            number(rt, lowest as u64)?;
+            number(rt, step as u64)?;
         }
         Frame::Power { count } => {
-            text(b"power");
-            number(count as u64);
-            text(b":");
-            values(beside);
+            text(rt, b"power")?;
+            number(rt, count as u64)?;
+            text(rt, b":")?;
+            values(rt, beside)?;
         }
-        Frame::Admit { id, cost, period } => job(id, cost, period),
+        Frame::Admit { id, cost, period } => job(rt, id, cost, period)?,
         Frame::Retire { id } => {
-            text(b"retire");
-            number(id as u64);
+            text(rt, b"retire")?;
+            number(rt, id as u64)?;
         }
-        Frame::PlanWanted => text(b"plan wanted"),
-        Frame::SlackWanted => text(b"slack wanted"),
+        Frame::PlanWanted => text(rt, b"plan wanted")?,
+        Frame::SlackWanted => text(rt, b"slack wanted")?,
         Frame::AdmitDue {
             id,
             cost,
             period,
             deadline,
-        } => due(id, cost, period, deadline),
+        } => due(rt, id, cost, period, deadline)?,
     }
-    text(b"\n");
+    text(rt, b"\n")
 }

@@ -2,45 +2,50 @@
 ghost use Rattle.std.specs.Prelude.{◌≤◌, length};
 
 use crate::print;
+use std::io;
 
 // Prints where a line starts and ends, and what it holds.
-fn line(sheet: &[u8], start: usize, end: usize)
+fn line(rt: &impl Print, sheet: &[u8], start: usize, end: usize) -> io::Result<()>
     requires { (start ≤ end) × (end ≤ length sheet.now) }
 {
-    print::text(b"line");
-    print::number(start as u64);
-    print::number(end as u64);
-    print::text(b" ");
-    print::reading(frame_reader::read_line(&sheet[start..end]));
+    print::text(rt, b"line")?;
+    print::number(rt, start as u64)?;
+    print::number(rt, end as u64)?;
+    print::text(rt, b" ")?;
+    print::reading(rt, frame_reader::read_line(&sheet[start..end]))
 }
 
-fn read(sheet: &[u8]) {
-    print::text(b"sheet\n");
+fn read(rt: &impl Print, sheet: &[u8]) -> io::Result<()> {
+    print::text(rt, b"sheet\n")?;
     let mut start = 0;
     while start < sheet.len() {
         let end = frame_reader::line_end(sheet, start);
-        line(sheet, start, end);
+        line(rt, sheet, start, end)?;
         start = end;
     }
+    Ok(())
 }
 
-pub fn taken_apart() {
+pub fn taken_apart(rt: &impl Print) -> io::Result<()> {
     // no line: the sheet is empty
-    read(b"");
+    read(rt, b"")?;
     // line 0 3 plan wanted: after a last 0A no line follows
-    read(b"05\n");
+    read(rt, b"05\n")?;
     // line 0 3 plan wanted, line 3 7 malformed: a last line without its 0A is a line, and is not closed
-    read(b"05\n0400");
+    read(rt, b"05\n0400")?;
     // line 0 1 malformed, line 1 2 malformed: two empty lines
-    read(b"\n\n");
+    read(rt, b"\n\n")?;
     // line 0 2 malformed: one line that nothing closes, though it would be a good frame
-    read(b"05");
+    read(rt, b"05")?;
     // machine 4 4 1 1, malformed, retire 1, plan wanted: lines of any length, an empty one between them
-    read(b"01040400010001\n\n040001\n05\n");
+    read(rt, b"01040400010001\n\n040001\n05\n")?;
     // past 3 4 18446744073709551615: a line that starts past the end of a sheet of 3 bytes ends where it starts
-    print::text(b"past");
-    print::number(frame_reader::line_end(b"05\n", 3) as u64);
-    print::number(frame_reader::line_end(b"05\n", 4) as u64);
-    print::number(frame_reader::line_end(b"05\n", 18_446_744_073_709_551_615) as u64);
-    print::text(b"\n");
+    print::text(rt, b"past")?;
+    print::number(rt, frame_reader::line_end(b"05\n", 3) as u64)?;
+    print::number(rt, frame_reader::line_end(b"05\n", 4) as u64)?;
+    print::number(
+        rt,
+        frame_reader::line_end(b"05\n", 18_446_744_073_709_551_615) as u64,
+    )?;
+    print::text(rt, b"\n")
 }

@@ -5,20 +5,42 @@
 // lines after it are for.
 #![tactic(auto)]
 
-ghost use Rattle.std.specs.Prelude.{◌≤◌, length};
+ghost use Rattle.std.specs.Prelude.{◌≡◌, ◌≤◌, length};
+ghost use Rattle.std.specs.Io.{ReadsAtMost};
 
 use frame_reader::line_end;
 use imports::import_machine;
-use libc::{STDIN_FILENO, STDOUT_FILENO};
 use planner::{Condition, Reply, Roster};
+use std::io;
+use std::io::Read;
 
-// Prints a number and the byte after it; whether both were written.
-fn put(n: u64, after: u8) -> bool {
-    if !io::print_decimal(STDOUT_FILENO, n) {
-        return false;
+// Room for the lines. Only its length is promised.
+fn room() -> [u8; 65536]
+    ensures { 65536 ≡ length result }
+{
+    [0; 65536]
+}
+
+// Reads to the end of the input or of the room; how many bytes were read.
+fn read_input(input: &mut impl Read, lines: &mut [u8]) -> io::Result<usize>
+    ensures { ReadsAtMost result lines.new }
+{
+    let mut done: usize = 0;
+    while done < lines.len() {
+        let more = input.read(&mut lines[done..])?;
+        if more == 0 {
+            break;
+        }
+        done += more;
     }
+    Ok(done)
+}
+
+// Prints a number and the byte after it.
+fn put(rt: &impl Print, n: u64, after: u8) -> io::Result<()> {
+    rt.print(n)?;
     let byte = [after];
-    io::write_all(STDOUT_FILENO, &byte)
+    rt.write_all(&byte)
 }
 
 // What a roster is found to be.
@@ -32,49 +54,46 @@ fn condition(roster: Roster) -> u64 {
 }
 
 // Prints the entries of a table, the last with the 0A.
-fn table(entries: [u32; 32]) -> bool {
+fn table(rt: &impl Print, entries: [u32; 32]) -> io::Result<()> {
     for i in 0..31 {
-        if !put(entries[i] as u64, b' ') {
-            return false;
-        }
+        put(rt, entries[i] as u64, b' ')?;
     }
-    put(entries[31] as u64, b'\n')
+    put(rt, entries[31] as u64, b'\n')
 }
 
-// Prints what an import replied; whether it was written.
-fn replied(reply: Reply) -> bool {
+// Prints what an import replied.
+fn replied(rt: &impl Print, reply: Reply) -> io::Result<()> {
     let answer = reply.answer;
     let roster = reply.roster;
     let machine = roster.machine;
     let entries = roster.table;
-    put(answer.number() as u64, b' ')
-        && put(machine.processors as u64, b' ')
-        && put(machine.levels as u64, b' ')
-        && put(machine.lowest as u64, b' ')
-        && put(machine.step as u64, b' ')
-        && put(condition(roster), b' ')
-        && put(roster.held as u64, b' ')
-        && table(entries)
+    put(rt, answer.number() as u64, b' ')?;
+    put(rt, machine.processors as u64, b' ')?;
+    put(rt, machine.levels as u64, b' ')?;
+    put(rt, machine.lowest as u64, b' ')?;
+    put(rt, machine.step as u64, b' ')?;
+    put(rt, condition(roster), b' ')?;
+    put(rt, roster.held as u64, b' ')?;
+    table(rt, entries)
 }
 
 // Line after line to the end of the input, or to the first failed write.
-fn answer(lines: &[u8])
+fn answer(rt: &impl Print, lines: &[u8]) -> io::Result<()>
     requires { length lines.now ≤ 65536 }
 {
     let mut at = 0;
     let mut processors: u64 = 1;
     while at < lines.len() {
         let next = line_end(lines, at);
-        if !replied(import_machine(processors, &lines[at..next])) {
-            return;
-        }
+        replied(rt, import_machine(processors, &lines[at..next]))?;
         at = next;
         processors += 1;
     }
+    Ok(())
 }
 
-fn main() {
-    let mut lines = io::large_buffer();
-    let count = io::read_full(STDIN_FILENO, &mut lines);
-    answer(&lines[..count]);
+fn main(rt: HostRuntime) -> io::Result<()> {
+    let mut lines = room();
+    let count = read_input(&mut rt.stdin(), &mut lines)?;
+    answer(&rt, &lines[..count])
 }

@@ -6,45 +6,81 @@
 
 mod print;
 
+ghost use Rattle.std.specs.Prelude.{◌≡◌, length};
+ghost use Rattle.std.specs.Io.{ReadsAtMost};
+
 use calls::call_frame;
 use frame_kinds::Frame;
 use frame_reader::{line_end, read_line};
-use libc::STDIN_FILENO;
 use planner::Roster;
 use slack_calls::slack_with;
+use std::io;
+use std::io::Read;
 
-// Prints the slack with a job; whether to go on.
-fn asked(roster: Roster, id: u16, cost: u16, period: u16, deadline: u16) -> bool {
-    print::slack(slack_with(
-        roster,
-        id as u64,
-        cost as u64,
-        period as u64,
-        deadline as u64,
-    ))
+// Room for a sheet. Only its length is promised.
+fn room() -> [u8; 65536]
+    ensures { 65536 ≡ length result }
+{
+    [0; 65536]
 }
 
-// Prints the slack with the job of an admit frame; whether to go on.
-fn offered(roster: Roster, frame: Frame) -> bool {
+// Reads to the end of the input or of the room; how many bytes were read.
+fn read_input(input: &mut impl Read, sheet: &mut [u8]) -> io::Result<usize>
+    ensures { ReadsAtMost result sheet.new }
+{
+    let mut done: usize = 0;
+    while done < sheet.len() {
+        let more = input.read(&mut sheet[done..])?;
+        if more == 0 {
+            break;
+        }
+        done += more;
+    }
+    Ok(done)
+}
+
+// Prints the slack with a job.
+fn asked(
+    rt: &impl Print,
+    roster: Roster,
+    id: u16,
+    cost: u16,
+    period: u16,
+    deadline: u16,
+) -> io::Result<()> {
+    print::slack(
+        rt,
+        slack_with(
+            roster,
+            id as u64,
+            cost as u64,
+            period as u64,
+            deadline as u64,
+        ),
+    )
+}
+
+// Prints the slack with the job of an admit frame.
+fn offered(rt: &impl Print, roster: Roster, frame: Frame) -> io::Result<()> {
     match frame {
-        Frame::Admit { id, cost, period } => asked(roster, id, cost, period, period),
-        Frame::Malformed => true,
+        Frame::Admit { id, cost, period } => asked(rt, roster, id, cost, period, period),
+        Frame::Malformed => Ok(()),
         Frame::Machine {
             processors: _,
             levels: _,
             lowest: _,
             step: _,
-        } => true,
-        Frame::Power { count: _ } => true,
-        Frame::Retire { id: _ } => true,
-        Frame::PlanWanted => true,
-        Frame::SlackWanted => true,
+        } => Ok(()),
+        Frame::Power { count: _ } => Ok(()),
+        Frame::Retire { id: _ } => Ok(()),
+        Frame::PlanWanted => Ok(()),
+        Frame::SlackWanted => Ok(()),
         Frame::AdmitDue {
             id,
             cost,
             period,
             deadline,
-        } => asked(roster, id, cost, period, deadline),
+        } => asked(rt, roster, id, cost, period, deadline),
     }
 }
 
@@ -57,25 +93,24 @@ fn called(roster: Roster, frame: Frame, values: [u32; 32]) -> Roster {
 }
 
 // Line after line to the end of the sheet, or to the first failed write.
-fn answer(sheet: &[u8]) {
+fn answer(rt: &impl Print, sheet: &[u8]) -> io::Result<()> {
     let mut roster = Roster::empty();
     let mut at = 0;
     while at < sheet.len() {
         let next = line_end(sheet, at);
         let reading = read_line(&sheet[at..next]);
         let frame = reading.frame;
-        if !offered(roster, frame) {
-            return;
-        }
+        offered(rt, roster, frame)?;
         let values = reading.values;
         let after = called(roster, frame, values);
         roster = after;
         at = next;
     }
+    Ok(())
 }
 
-fn main() {
-    let mut sheet = io::large_buffer();
-    let count = io::read_full(STDIN_FILENO, &mut sheet);
-    answer(&sheet[..count]);
+fn main(rt: HostRuntime) -> io::Result<()> {
+    let mut sheet = room();
+    let count = read_input(&mut rt.stdin(), &mut sheet)?;
+    answer(&rt, &sheet[..count])
 }

@@ -1,8 +1,8 @@
 // The line of a slack answer, composed in a buffer and written at once.
 ghost use Rattle.std.specs.Prelude.{◌≤◌};
 
-use libc::STDOUT_FILENO;
 use slack_calls::SlackAnswer;
+use std::io;
 
 // The longest line: a number of three digits; 32 times a blank, ticks of 20 signs, a blank and a remainder of three digits; the 0A.
 const LONGEST: usize = 804;
@@ -19,16 +19,14 @@ fn put(line: &mut [u8; LONGEST], at: usize, byte: u8) -> usize
     at
 }
 
-// Puts the first `count` digits.
-fn put_digits(line: &mut [u8; LONGEST], at: usize, digits: [u8; 20], count: usize) -> usize
+// Puts digits.
+fn put_digits(line: &mut [u8; LONGEST], at: usize, digits: &[u8]) -> usize
     requires { at ≤ 804 }
     ensures { result ≤ 804 }
 {
     let mut end = at;
-    for i in 0..20 {
-        if i < count {
-            end = put(line, end, digits[i]);
-        }
+    for digit in digits {
+        end = put(line, end, *digit);
     }
     end
 }
@@ -38,9 +36,8 @@ fn put_number(line: &mut [u8; LONGEST], at: usize, n: u64) -> usize
     requires { at ≤ 804 }
     ensures { result ≤ 804 }
 {
-    let mut digits = [0u8; 20];
-    let count = io::decimal(n, &mut digits);
-    put_digits(line, at, digits, count)
+    let mut digits = itoa::Buffer::new();
+    put_digits(line, at, digits.format(n).as_bytes())
 }
 
 // Puts a number of a sign in decimal, by its 64 bits: those of a number below zero are 2^64 less its magnitude.
@@ -79,15 +76,15 @@ fn put_tests(line: &mut [u8; LONGEST], at: usize, ticks: [i64; 32], remainders: 
     end
 }
 
-// Writes the line up to its end; whether it was written.
-fn written(line: [u8; LONGEST], end: usize) -> bool
+// Writes the line up to its end.
+fn written(rt: &impl Print, line: [u8; LONGEST], end: usize) -> io::Result<()>
     requires { end ≤ 804 }
 {
-    io::write_all(STDOUT_FILENO, &line[..end])
+    rt.write_all(&line[..end])
 }
 
-// Prints the number of an answer and the 32 entries; whether they were written.
-pub fn slack(slack: SlackAnswer) -> bool {
+// Prints the number of an answer and the 32 entries.
+pub fn slack(rt: &impl Print, slack: SlackAnswer) -> io::Result<()> {
     let answer = slack.answer;
     let ticks = slack.ticks;
     let remainders = slack.remainders;
@@ -95,5 +92,5 @@ pub fn slack(slack: SlackAnswer) -> bool {
     let first = put_number(&mut line, 0, answer.number() as u64);
     let last = put_tests(&mut line, first, ticks, remainders);
     let end = put(&mut line, last, b'\n');
-    written(line, end)
+    written(rt, line, end)
 }

@@ -3,6 +3,7 @@ use crate::calls;
 use crate::compare::compare;
 use gmf::{Job, Machine};
 use planner::Roster;
+use std::io;
 
 pub fn with_machine(roster: Roster, processors: u8, levels: u8, lowest: u16, step: u8) -> Roster {
     let machine = Machine {
@@ -65,42 +66,42 @@ pub fn with_deadline(roster: Roster, place: usize, deadline: u16) -> Roster {
 }
 
 // An accepted call changes what it names and nothing else: each roster that comes back is the one set by hand, in every field.
-pub fn calls() {
+pub fn calls(rt: &impl Print) -> io::Result<()> {
     // a machine has its four numbers and the cubes of its speeds 2, 5 and 8; all else is zero as it was
     let mut mine = with_machine(Roster::empty(), 2, 3, 2, 3);
     mine = with_entry(mine, 0, 8);
     mine = with_entry(mine, 1, 125);
     mine = with_entry(mine, 2, 512);
-    let mut roster = calls::open(Roster::empty(), 2, 3, 2, 3);
-    compare(roster, mine);
+    let mut roster = calls::open(rt, Roster::empty(), 2, 3, 2, 3)?;
+    compare(rt, roster, mine)?;
     // a job goes in at the first place
     mine = with_job(with_held(mine, 1), 0, 20, 1, 2);
-    roster = calls::admit(roster, 20, 1, 2);
-    compare(roster, mine);
+    roster = calls::admit(rt, roster, 20, 1, 2)?;
+    compare(rt, roster, mine)?;
     // a lower id goes before it
     mine = with_job(with_held(mine, 2), 0, 10, 1, 4);
     mine = with_job(mine, 1, 20, 1, 2);
-    roster = calls::admit(roster, 10, 1, 4);
-    compare(roster, mine);
+    roster = calls::admit(rt, roster, 10, 1, 4)?;
+    compare(rt, roster, mine)?;
     // a job with a deadline of its own goes in between; H is still 4
     mine = with_deadline(with_job(with_held(mine, 3), 1, 15, 1, 8), 1, 4);
     mine = with_job(mine, 2, 20, 1, 2);
-    roster = calls::admit_due(roster, 15, 1, 8, 4);
-    compare(roster, mine);
+    roster = calls::admit_due(rt, roster, 15, 1, 8, 4)?;
+    compare(rt, roster, mine)?;
     // and out again: the places are as before
     mine = with_job(with_held(mine, 2), 1, 20, 1, 2);
     mine = with_job(mine, 2, 0, 0, 0);
-    roster = calls::retire(roster, 15);
-    compare(roster, mine);
+    roster = calls::retire(rt, roster, 15)?;
+    compare(rt, roster, mine)?;
     // the three values are the table; machine and jobs stay
     mine = with_entry(mine, 0, 18);
     mine = with_entry(mine, 1, 48);
     mine = with_entry(mine, 2, 100);
-    roster = calls::replace(roster, &[18, 48, 100]);
-    compare(roster, mine);
+    roster = calls::replace(rt, roster, &[18, 48, 100])?;
+    compare(rt, roster, mine)?;
     // the job of id 10 goes out, the other moves down, and the place left is zero
     mine = with_job(with_held(mine, 1), 0, 20, 1, 2);
     mine = with_job(mine, 1, 0, 0, 0);
-    roster = calls::retire(roster, 10);
-    compare(roster, mine);
+    roster = calls::retire(rt, roster, 10)?;
+    compare(rt, roster, mine)
 }

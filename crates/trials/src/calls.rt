@@ -2,74 +2,96 @@
 use crate::compare::same;
 use crate::print;
 use planner::{Reply, Roster};
+use std::io;
 
 // The answer's number, and whether the roster changed.
-pub fn told(before: Roster, reply: Reply) -> Roster {
+pub fn told(rt: &impl Print, before: Roster, reply: Reply) -> io::Result<Roster> {
     let answer = reply.answer;
     let after = reply.roster;
-    print::number(answer.number() as u64);
+    print::number(rt, answer.number() as u64)?;
     if !same(before, after) {
-        print::text(b" changed");
+        print::text(rt, b" changed")?;
     }
-    after
+    Ok(after)
 }
 
-pub fn open(roster: Roster, processors: u64, levels: u64, lowest: u64, step: u64) -> Roster {
-    print::text(b"open");
-    print::number(processors);
-    print::number(levels);
-    print::number(lowest);
-    print::number(step);
-    print::text(b":");
+pub fn open(
+    rt: &impl Print,
+    roster: Roster,
+    processors: u64,
+    levels: u64,
+    lowest: u64,
+    step: u64,
+) -> io::Result<Roster> {
+    print::text(rt, b"open")?;
+    print::number(rt, processors)?;
+    print::number(rt, levels)?;
+    print::number(rt, lowest)?;
+    print::number(rt, step)?;
+    print::text(rt, b":")?;
     let after = told(
+        rt,
         roster,
         roster.open_machine(processors, levels, lowest, step),
-    );
-    print::text(b"\n");
-    after
+    )?;
+    print::text(rt, b"\n")?;
+    Ok(after)
 }
 
-pub fn replace(roster: Roster, values: &[u32]) -> Roster {
-    print::text(b"replace");
-    print::values(values);
-    print::text(b":");
-    let after = told(roster, roster.replace_table(values));
-    print::text(b"\n");
-    after
+pub fn replace(rt: &impl Print, roster: Roster, values: &[u32]) -> io::Result<Roster> {
+    print::text(rt, b"replace")?;
+    print::values(rt, values)?;
+    print::text(rt, b":")?;
+    let after = told(rt, roster, roster.replace_table(values))?;
+    print::text(rt, b"\n")?;
+    Ok(after)
 }
 
 // With its period for its deadline.
-pub fn admit(roster: Roster, id: u64, cost: u64, period: u64) -> Roster {
-    print::text(b"admit");
-    print::number(id);
-    print::number(cost);
-    print::number(period);
-    print::text(b":");
-    let after = told(roster, roster.admit(id, cost, period, period));
-    print::text(b"\n");
-    after
+pub fn admit(
+    rt: &impl Print,
+    roster: Roster,
+    id: u64,
+    cost: u64,
+    period: u64,
+) -> io::Result<Roster> {
+    print::text(rt, b"admit")?;
+    print::number(rt, id)?;
+    print::number(rt, cost)?;
+    print::number(rt, period)?;
+    print::text(rt, b":")?;
+    let after = told(rt, roster, roster.admit(id, cost, period, period))?;
+    print::text(rt, b"\n")?;
+    Ok(after)
 }
 
-pub fn admit_due(roster: Roster, id: u64, cost: u64, period: u64, deadline: u64) -> Roster {
-    print::text(b"admit");
-    print::number(id);
-    print::number(cost);
-    print::number(period);
-    print::text(b" due");
-    print::number(deadline);
-    print::text(b":");
-    let after = told(roster, roster.admit(id, cost, period, deadline));
-    print::text(b"\n");
-    after
+pub fn admit_due(
+    rt: &impl Print,
+    roster: Roster,
+    id: u64,
+    cost: u64,
+    period: u64,
+    deadline: u64,
+) -> io::Result<Roster> {
+    print::text(rt, b"admit")?;
+    print::number(rt, id)?;
+    print::number(rt, cost)?;
+    print::number(rt, period)?;
+    print::text(rt, b" due")?;
+    print::number(rt, deadline)?;
+    print::text(rt, b":")?;
+    let after = told(rt, roster, roster.admit(id, cost, period, deadline))?;
+    print::text(rt, b"\n")?;
+    Ok(after)
 }
 
-pub fn retire(roster: Roster, id: u64) -> Roster {
-    print::text(b"retire");
-    print::number(id);
-    print::text(b":");
-    let after = told(roster, roster.retire(id));
-    print::text(b"\n");
-    after
+pub fn retire(rt: &impl Print, roster: Roster, id: u64) -> io::Result<Roster> {
+    print::text(rt, b"retire")?;
+    print::number(rt, id)?;
+    print::text(rt, b":")?;
+    let after = told(rt, roster, roster.retire(id))?;
+    print::text(rt, b"\n")?;
+    Ok(after)
 }
 
 // A new machine, and nothing printed.

@@ -3,6 +3,7 @@ use crate::by_hand::{with_deadline, with_entry, with_held, with_job, with_machin
 use crate::print;
 use gmf::Job;
 use planner::Roster;
+use std::io;
 
 fn same_table(a: [u32; 32], b: [u32; 32]) -> bool {
     for j in 0..32 {
@@ -61,32 +62,32 @@ pub fn same(a: Roster, b: Roster) -> bool {
     same_jobs(jobs, other_jobs)
 }
 
-pub fn compare(a: Roster, b: Roster) {
+pub fn compare(rt: &impl Print, a: Roster, b: Roster) -> io::Result<()> {
     if same(a, b) {
-        print::text(b"compared: same\n");
+        print::text(rt, b"compared: same\n")
     } else {
-        print::text(b"compared: other\n");
+        print::text(rt, b"compared: other\n")
     }
 }
 
 // The comparison itself: a roster is the same as itself, and another where any one field is.
-pub fn differences() {
+pub fn differences(rt: &impl Print) -> io::Result<()> {
     let zero = Roster::empty();
     // same
-    compare(zero, zero);
+    compare(rt, zero, zero)?;
     // other, four times: a field of the machine
-    compare(zero, with_machine(zero, 1, 0, 0, 0));
-    compare(zero, with_machine(zero, 0, 1, 0, 0));
-    compare(with_machine(zero, 0, 0, 1, 0), zero);
-    compare(with_machine(zero, 0, 0, 0, 1), zero);
+    compare(rt, zero, with_machine(zero, 1, 0, 0, 0))?;
+    compare(rt, zero, with_machine(zero, 0, 1, 0, 0))?;
+    compare(rt, with_machine(zero, 0, 0, 1, 0), zero)?;
+    compare(rt, with_machine(zero, 0, 0, 0, 1), zero)?;
     // other: the first and the last entry of the table
-    compare(zero, with_entry(zero, 0, 1));
-    compare(zero, with_entry(zero, 31, 1));
+    compare(rt, zero, with_entry(zero, 0, 1))?;
+    compare(rt, zero, with_entry(zero, 31, 1))?;
     // other: the count
-    compare(zero, with_held(zero, 1));
+    compare(rt, zero, with_held(zero, 1))?;
     // other: a field of the first place and of the last
-    compare(zero, with_job(zero, 0, 1, 0, 0));
-    compare(zero, with_job(zero, 63, 0, 1, 0));
-    compare(with_deadline(with_job(zero, 63, 0, 0, 1), 63, 0), zero);
-    compare(with_deadline(zero, 63, 1), zero);
+    compare(rt, zero, with_job(zero, 0, 1, 0, 0))?;
+    compare(rt, zero, with_job(zero, 63, 0, 1, 0))?;
+    compare(rt, with_deadline(with_job(zero, 63, 0, 0, 1), 63, 0), zero)?;
+    compare(rt, with_deadline(zero, 63, 1), zero)
 }
