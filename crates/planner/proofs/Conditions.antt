@@ -24,7 +24,6 @@ use Rattle.workload.proofs.Results.{workload}
 use Rattle.planner.specs.declared.Roster.{Roster}
 use Rattle.planner.specs.declared.Condition.TheVariants as condition
 use Rattle.planner.specs.Tests.{cycle_too_long}
-use Rattle.planner.specs.Model.{Closed}
 use Rattle.planner.specs.Roster.{model_of, in_shape, sound, all_zero, well_formed, condition_of, inspected}
 use Rattle.planner.proofs.TestRules.{passes_none}
 use Rattle.planner.proofs.Passing.{long_not, passes_plan}

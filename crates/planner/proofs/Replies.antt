@@ -9,7 +9,7 @@ use lib.ListN.{length, take, drop, replicate, take-append-drop}
 use lib.Seq.{length-take-le, take_all}
 use Rattle.gmf.specs.declared.Machine.{Machine}
 use Rattle.gmf.specs.declared.Job.{Job}
-use Rattle.gmf.specs.Machine.{InRange, machine}
+use Rattle.gmf.specs.Machine.{InRange}
 use Rattle.gmf.specs.Jobs.{JobInRange, hyperperiod, hyperperiod_limit}
 use Rattle.gmf.specs.Power.{default_table}
 use Rattle.places.specs.Places.{no_job, places_of, listed, has, before, insert, remove}
