@@ -2,7 +2,6 @@
 use Prim.Native.Nat.{ℕ, ◌-◌, ◌*◌}
 use native.Mathlib.Omega.{arith}
 use mathlib.Core.Path.{◌≡◌, ap}
-use borrow.Author.Rules.{rules}
 use Rattle.gmf.specs.Machine.{speed, top}
 use Rattle.accessors.proofs.top_speed.Goals as goal
 

@@ -1,7 +1,6 @@
 -- `number::gcd` meets its contract: a step keeps the gcd of the two numbers.
 use mathlib.Core.Path.{◌≡◌, refl, sym, ap, ◌∙◌}
 use native.Mathlib.Nat.{mod-lt, pos_of_ne-zero}
-use borrow.Author.Rules.{rules}
 use Rattle.number.specs.Divisors.{gcd}
 use Rattle.number.proofs.Laws.{gcd_zero_right, gcd_step}
 use Rattle.number.proofs.gcd.Goals as goal

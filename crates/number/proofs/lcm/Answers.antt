@@ -3,8 +3,7 @@ use Prim.Native.Nat.{◌≤◌, ◌/◌}
 use mathlib.Core.Path.{sym}
 use native.Mathlib.Omega.{arith}
 use native.Mathlib.Nat.{div-le_self, mul-le-mul, pos_of_ne-zero}
-use borrow.Author.Rules.{rules}
-use Rattle.number.specs.Divisors.{gcd, lcm}
+use Rattle.number.specs.Divisors.{lcm}
 use Rattle.number.proofs.Laws.{gcd_pos, lcm_zero_left}
 use Rattle.number.proofs.lcm.Goals as goal
 
