@@ -10,7 +10,6 @@ use Rattle.planner.specs.declared.Reply.{Reply}
 use Rattle.refusals.specs.declared.Answer.TheVariants.{Accepted, Refused}
 use Rattle.refusals.specs.declared.Refusal.{Refusal}
 use Rattle.refusals.specs.declared.Refusal.TheVariants.{Malformed, Damaged}
-use Rattle.planner.specs.declared.Condition.TheVariants as condition
 use Rattle.planner.specs.Model as planner
 use Rattle.planner.specs.Roster.{well_formed, reply_to}
 use Rattle.refusals.specs.Numbers.{refusal_number, number_of}
