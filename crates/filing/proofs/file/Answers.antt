@@ -14,8 +14,8 @@ use Rattle.filing.proofs.file.Goals as goal
 pub total_power-power-requires : goal.total_power-power-requires
 total_power-power-requires c = record {
   processors_bound = omega (arith, c.requires.0.rules.machine_range.processors);
-  by_index = λ k h. level_range c.args.roster c.requires.0 c.grow-plan.result c.grow-plan.ensures k (omega (arith, h, c.requires.0.rules.machine_range.processors));
-  by_index_2 = power_range c.args.roster c.requires.0 c.grow-plan.result c.grow-plan.ensures;
+  levels_bound = λ k h. level_range c.args.roster c.requires.0 c.grow-plan.result c.grow-plan.ensures k (omega (arith, h, c.requires.0.rules.machine_range.processors));
+  powers_bound = power_range c.args.roster c.requires.0 c.grow-plan.result c.grow-plan.ensures;
 }
 
 pub slice_bounds-levels-end : goal.slice_bounds-levels-end

@@ -16,7 +16,7 @@ loop-k-init c = (omega arith, omega arith, omega arith)
 
 -- The level that a turn reads is one of the table.
 within : (c : Start) (k : ℕ) → k < c.args.processors → level c.args.levels k < 32
-within c k h = c.requires.by_index k h
+within c k h = c.requires.levels_bound k h
 
 pub overflow_cast-level : goal.overflow_cast-level
 overflow_cast-level c = omega (arith, within c.before.before c.loop-k.k (omega arith))
@@ -32,7 +32,7 @@ kept : {n s p : ℕ} → n < 32 → s ≤ n * power_limit → p ≤ power_limit 
 kept few so_far small = (omega arith, omega arith)
 
 pub overflow_add-sum : goal.overflow_add-sum
-overflow_add-sum c = record { fits = (kept (omega arith) c.loop-k.invariant.1 (c.requires.by_index_2 _)).1 }
+overflow_add-sum c = record { fits = (kept (omega arith) c.loop-k.invariant.1 (c.requires.powers_bound _)).1 }
 
 long : (c : Start) → length c.args.levels ≡ 32
 long c = search rules
@@ -42,7 +42,7 @@ loop-k-preserved c =
     let s = c.before.before in
     let k = c.loop-k.k in (
       rw (add-one k, drawn_suc s.args.table k s.args.levels (omega (arith, long s))) (omega arith),
-      (kept (omega arith) c.loop-k.invariant.1 (s.requires.by_index_2 _)).0,
+      (kept (omega arith) c.loop-k.invariant.1 (s.requires.powers_bound _)).0,
       omega arith,
     )
 
