@@ -39,8 +39,7 @@ slice_bounds-write_plan-end c =
 
 pub returns-in-Written : goal.returns-in-Written
 returns-in-Written c =
-    let places : length c.args.roster.jobs ≡ 64 =
-    search rules in
+    let places : length c.args.roster.jobs ≡ 64 = search rules in
     let r = c.args.roster in
     let f = found r c.requires.0 c.grow-plan.result c.grow-plan.ensures in
     put_written c.args.page.now c.args.place _ _ _
@@ -52,8 +51,7 @@ returns-in-Written c =
 
 pub returns-in-NoRoom : goal.returns-in-NoRoom
 returns-in-NoRoom c =
-    let places : length c.args.roster.jobs ≡ 64 =
-    search rules in
+    let places : length c.args.roster.jobs ≡ 64 = search rules in
     let r = c.args.roster in
     ap (λ (f : Filing). filed_by f c.write_plan-placing.new.page) c.unfiled.ensures
     ∙ put_none c.args.page.now c.args.place _ _

@@ -1,5 +1,5 @@
 -- `number::gcd` meets its contract: a step keeps the gcd of the two numbers.
-use mathlib.Core.Path.{◌≡◌, refl, sym, ap, ◌∙◌}
+use mathlib.Core.Path.{refl, sym, ap, ◌∙◌}
 use native.Mathlib.Nat.{mod-lt, pos_of_ne-zero}
 use Rattle.number.specs.Divisors.{gcd}
 use Rattle.number.proofs.Laws.{gcd_zero_right, gcd_step}
@@ -12,10 +12,7 @@ pub loop-y-smaller : goal.loop-y-smaller
 loop-y-smaller c = mod-lt _ (pos_of_ne-zero c.loop-y-test.true)
 
 pub loop-y-preserved : goal.loop-y-preserved
-loop-y-preserved c = gcd_step _ _ ∙ c.before.loop-y.invariant
-
-foo : (c : goal.After-loop-y) → gcd c.before.loop-y.x c.loop-y.y ≡ gcd c.before.before.args.a c.args.b
-foo c = c.before.loop-y.invariant
+loop-y-preserved c = gcd_step _ _ ∙ c.loop-y.invariant
 
 pub returns : goal.returns
-returns c = sym (gcd_zero_right _) ∙ ap (gcd c.before.loop-y.x) (sym c.loop-y-test.false) ∙ foo c
+returns c = sym (gcd_zero_right _) ∙ ap (gcd c.loop-y.x) (sym c.loop-y-test.false) ∙ c.loop-y.invariant

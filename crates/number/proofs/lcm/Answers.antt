@@ -8,18 +8,18 @@ use Rattle.number.proofs.Laws.{gcd_pos, lcm_zero_left}
 use Rattle.number.proofs.lcm.Goals as goal
 
 pub returns-then-a-eq0 : goal.returns-then-a-eq0
-returns-then-a-eq0 c = sym (rw c.if-a-eq0.true (lcm_zero_left c.before.args.b))
+returns-then-a-eq0 c = sym (rw c.if-a-eq0.true (lcm_zero_left c.args.b))
 
 pub nonzero_div-result : goal.nonzero_div-result
-nonzero_div-result c = rw c.gcd.ensures (gcd_pos _ _ (pos_of_ne-zero c.before.if-a-eq0.false))
+nonzero_div-result c = rw c.gcd.ensures (gcd_pos _ _ (pos_of_ne-zero c.if-a-eq0.false))
 
 pub overflow_cast-result : goal.overflow_cast-result
-overflow_cast-result c = omega (arith, div-le_self c.before.before.args.a c.gcd.result)
+overflow_cast-result c = omega (arith, div-le_self c.args.a c.gcd.result)
 
 pub overflow_mul-result : goal.overflow_mul-result
 overflow_mul-result c =
-    let a = c.before.before.args.a in
-    let b = c.before.before.args.b in
+    let a = c.args.a in
+    let b = c.args.b in
     let most : b ≤ 4294967295 = omega arith in
     let part : a / c.gcd.result ≤ 4294967295 = omega (arith, div-le_self a c.gcd.result) in
     omega (arith, mul-le-mul part most)

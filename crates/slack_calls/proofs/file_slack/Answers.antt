@@ -8,40 +8,32 @@ use Rattle.slack_calls.proofs.file_slack.Goals as goal
 
 pub file-requires : goal.file-requires
 file-requires c =
-    let entries : length c.args.roster.table ≡ 32 =
-    search rules in
-    let places : length c.args.roster.jobs ≡ 64 =
-    search rules in
+    let entries : length c.args.roster.table ≡ 32 = search rules in
+    let places : length c.args.roster.jobs ≡ 64 = search rules in
     let e = sym c.inspect-condition.ensures ∙ c.in-Open.is in
     ((rule slack_filed c.args.roster entries places).open_sound _ e, (rule slack_filed c.args.roster entries places).open_totals _ e)
 
 pub returns-in-Damaged : goal.returns-in-Damaged
 unfolding slack_reply
 returns-in-Damaged c =
-    let entries : length c.args.roster.table ≡ 32 =
-    search rules in
-    let places : length c.args.roster.jobs ≡ 64 =
-    search rules in
+    let entries : length c.args.roster.table ≡ 32 = search rules in
+    let places : length c.args.roster.jobs ≡ 64 = search rules in
     reply_damaged slack_filed c.args.roster entries places c.args.page.now c.args.place
     (sym c.inspect-condition.ensures ∙ c.in-Damaged.is) _ c.unfiled.ensures refl
 
 pub returns-in-Closed : goal.returns-in-Closed
 unfolding slack_reply slack_filed
 returns-in-Closed c =
-    let entries : length c.args.roster.table ≡ 32 =
-    search rules in
-    let places : length c.args.roster.jobs ≡ 64 =
-    search rules in
+    let entries : length c.args.roster.table ≡ 32 = search rules in
+    let places : length c.args.roster.jobs ≡ 64 = search rules in
     reply_closed slack_filed c.args.roster entries places c.args.page.now c.args.place refl
     (sym c.inspect-condition.ensures ∙ c.in-Closed.is) _ c.unfiled-in-Closed.ensures refl
 
 pub returns-in-Open : goal.returns-in-Open
 unfolding slack_reply slack_filed
 returns-in-Open c =
-    let entries : length c.args.roster.table ≡ 32 =
-    search rules in
-    let places : length c.args.roster.jobs ≡ 64 =
-    search rules in
+    let entries : length c.args.roster.table ≡ 32 = search rules in
+    let places : length c.args.roster.jobs ≡ 64 = search rules in
     c.file.ensures
     ∙ reply_open slack_filed c.args.roster entries places c.args.page.now c.args.place _
     (sym c.inspect-condition.ensures ∙ c.in-Open.is)

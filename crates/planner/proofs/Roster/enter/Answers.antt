@@ -10,50 +10,36 @@ use Rattle.planner.proofs.Roster.enter.Goals as goal
 
 pub place_of-at-requires : goal.place_of-at-requires
 place_of-at-requires c =
-    let entries : length c.args.self.table ≡ 32 =
-    search rules in
-    let places : length c.args.self.jobs ≡ 64 =
-    search rules in
+    let entries : length c.args.self.table ≡ 32 = search rules in
+    let places : length c.args.self.jobs ≡ 64 = search rules in
     (c.requires.0.places, held_listed _ entries places c.requires.0)
 
 pub stands_at-requires : goal.stands_at-requires
 stands_at-requires c =
-    let entries : length c.args.self.table ≡ 32 =
-    search rules in
-    let places : length c.args.self.jobs ≡ 64 =
-    search rules in
+    let entries : length c.args.self.table ≡ 32 = search rules in
+    let places : length c.args.self.jobs ≡ 64 = search rules in
     (c.requires.0.places, held_listed _ entries places c.requires.0, c.place_of-at.ensures)
 
 pub returns-then-stands_at : goal.returns-then-stands_at
 returns-then-stands_at c =
-    let entries : length c.args.self.table ≡ 32 =
-    search rules in
-    let places : length c.args.self.jobs ≡ 64 =
-    search rules in
+    let entries : length c.args.self.table ≡ 32 = search rules in
+    let places : length c.args.self.jobs ≡ 64 = search rules in
     refused_by c.args.self IdHeld c.refuse.ensures refl refl
     (enter_held _ entries places c.requires.0 _ (sym c.stands_at.ensures ∙ c.if-stands_at.true))
 
 pub returns-then-held-ge-PLACES : goal.returns-then-held-ge-PLACES
 returns-then-held-ge-PLACES c =
-    let entries : length c.args.self.table ≡ 32 =
-    search rules in
-    let places : length c.args.self.jobs ≡ 64 =
-    search rules in
-    let fresh : has c.args.job.id
-    (take c.args.self.held c.args.self.jobs) ≡ false =
-    sym c.stands_at.ensures ∙ c.if-stands_at.false in
+    let entries : length c.args.self.table ≡ 32 = search rules in
+    let places : length c.args.self.jobs ≡ 64 = search rules in
+    let fresh : has c.args.job.id (take c.args.self.held c.args.self.jobs) ≡ false = sym c.stands_at.ensures ∙ c.if-stands_at.false in
     refused_by c.args.self PlacesFull c.refuse-then-held-ge-PLACES.ensures refl refl
     (enter_full _ entries places c.requires.0 _ fresh c.if-held-ge-PLACES.true)
 
 pub with-load-requires : goal.with-load-requires
 with-load-requires c =
-    let entries : length c.args.self.table ≡ 32 =
-    search rules in
-    let places : length c.args.self.jobs ≡ 64 =
-    search rules in
-    let fresh : has c.args.job.id
-    (take c.args.self.held c.args.self.jobs) ≡ false =
-    sym c.stands_at.ensures ∙ c.if-stands_at.false in
+    let entries : length c.args.self.table ≡ 32 = search rules in
+    let places : length c.args.self.jobs ≡ 64 = search rules in
+    let fresh : has c.args.job.id (take c.args.self.held c.args.self.jobs) ≡ false = sym c.stands_at.ensures ∙ c.if-stands_at.false in
     record {
       job_in_range = c.requires.2;
       hyperperiod_nonzero = with_range _ entries places c.requires.0 _ fresh c.if-held-ge-PLACES.false c.requires.2 _ c.requires.1;
@@ -61,38 +47,26 @@ with-load-requires c =
 
 pub returns-in-TooLong : goal.returns-in-TooLong
 returns-in-TooLong c =
-    let entries : length c.args.self.table ≡ 32 =
-    search rules in
-    let places : length c.args.self.jobs ≡ 64 =
-    search rules in
-    let fresh : has c.args.job.id
-    (take c.args.self.held c.args.self.jobs) ≡ false =
-    sym c.stands_at.ensures ∙ c.if-stands_at.false in
+    let entries : length c.args.self.table ≡ 32 = search rules in
+    let places : length c.args.self.jobs ≡ 64 = search rules in
+    let fresh : has c.args.job.id (take c.args.self.held c.args.self.jobs) ≡ false = sym c.stands_at.ensures ∙ c.if-stands_at.false in
     refused_by c.args.self HyperperiodTooLong c.refuse-in-TooLong.ensures refl refl
-    (enter_long _ entries places c.requires.0 _ fresh c.if-held-ge-PLACES.false c.requires.2 _ c.requires.1 _ c.before.before.before.with-load.ensures
+    (enter_long _ entries places c.requires.0 _ fresh c.if-held-ge-PLACES.false c.requires.2 _ c.requires.1 _ c.with-load.ensures
     (sym c.judge-verdict.ensures ∙ c.in-TooLong.is))
 
 pub returns-in-NoPlan : goal.returns-in-NoPlan
 returns-in-NoPlan c =
-    let entries : length c.args.self.table ≡ 32 =
-    search rules in
-    let places : length c.args.self.jobs ≡ 64 =
-    search rules in
-    let fresh : has c.args.job.id
-    (take c.args.self.held c.args.self.jobs) ≡ false =
-    sym c.stands_at.ensures ∙ c.if-stands_at.false in
+    let entries : length c.args.self.table ≡ 32 = search rules in
+    let places : length c.args.self.jobs ≡ 64 = search rules in
+    let fresh : has c.args.job.id (take c.args.self.held c.args.self.jobs) ≡ false = sym c.stands_at.ensures ∙ c.if-stands_at.false in
     refused_by c.args.self NoPlan c.refuse-in-NoPlan.ensures refl refl
-    (enter_none _ entries places c.requires.0 _ fresh c.if-held-ge-PLACES.false c.requires.2 _ c.requires.1 _ c.before.before.before.with-load.ensures
+    (enter_none _ entries places c.requires.0 _ fresh c.if-held-ge-PLACES.false c.requires.2 _ c.requires.1 _ c.with-load.ensures
     (sym c.judge-verdict.ensures ∙ c.in-NoPlan.is))
 
 pub returns-in-SomePlan : goal.returns-in-SomePlan
 returns-in-SomePlan c =
-    let entries : length c.args.self.table ≡ 32 =
-    search rules in
-    let places : length c.args.self.jobs ≡ 64 =
-    search rules in
-    let fresh : has c.args.job.id
-    (take c.args.self.held c.args.self.jobs) ≡ false =
-    sym c.stands_at.ensures ∙ c.if-stands_at.false in
-    enter_in _ entries places c.requires.0 _ fresh c.if-held-ge-PLACES.false c.requires.2 _ c.requires.1 _ c.before.before.before.before.with-load.ensures
-    (sym c.judge-verdict.ensures ∙ c.before.in-SomePlan.is) _ _ c.before.before.before.before.before.before.before.before.place_of-at.ensures c.put_in-with_it.ensures
+    let entries : length c.args.self.table ≡ 32 = search rules in
+    let places : length c.args.self.jobs ≡ 64 = search rules in
+    let fresh : has c.args.job.id (take c.args.self.held c.args.self.jobs) ≡ false = sym c.stands_at.ensures ∙ c.if-stands_at.false in
+    enter_in _ entries places c.requires.0 _ fresh c.if-held-ge-PLACES.false c.requires.2 _ c.requires.1 _ c.with-load.ensures
+    (sym c.judge-verdict.ensures ∙ c.in-SomePlan.is) _ _ c.place_of-at.ensures c.put_in-with_it.ensures
