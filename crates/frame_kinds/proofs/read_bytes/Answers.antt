@@ -1,6 +1,7 @@
 -- `frame_kinds::read_bytes` meets its contract: one arm for each kind, and one for those that are none.
 use mathlib.Core.Path.{◌≡◌, refl, ap, ◌∙◌}
 use native.Mathlib.Omega.{arith}
+use borrow.Author.Rules.{rules}
 use lib.ListN.{get_or}
 use Rattle.frame_kinds.specs.Frames.{kind_of, said_as, said_with, reading_of}
 use Rattle.frame_kinds.proofs.Readings.{no_bytes, some_bytes, unknown_kind}
@@ -39,5 +40,5 @@ returns-in-0 c =
     let same : reading_of (said_as kind _) ≡ reading_of (said_with frame) = ap reading_of (some_bytes frame kind (omega arith) refl) in
     c.alone-in-0.ensures
     ∙ unknown_kind kind _
-    (grind arith)
+    (search rules)
     ∙ same

@@ -1,8 +1,8 @@
 -- `slack_writer::put_tests` meets its contract: one test after the other, up to the count or to the last.
-use mathlib.Core.Path.{refl}
+use mathlib.Core.Path.{◌≡◌, refl}
 use native.Mathlib.Omega.{arith}
 use lib.IntN.{pos}
-use lib.ListN.{get_or}
+use lib.ListN.{get_or, length}
 use mir.Syntax.{w64}
 use mir.ValLaws.{to_z-of_z}
 use borrow.Author.Rules.{rules}
@@ -30,4 +30,7 @@ loop-i-preserved c =
     )
 
 pub returns : goal.returns
-returns c = put_full c.loop-i.invariant.1 (search rules) (search rules) (omega arith)
+returns c =
+    let all : length c.args.ticks ≡ 32 = search rules in
+    let alike : length c.args.remainders ≡ 32 = search rules in
+    put_full c.loop-i.invariant.1 (omega arith) (omega arith) (omega arith)
