@@ -18,12 +18,11 @@ use Rattle.workload.specs.declared.Load.{Load}
 use Rattle.workload.specs.declared.Load.TheVariants.{Within, TooLong}
 use Rattle.workload.specs.Load.{totals, load_of, with_job}
 use Rattle.workload.proofs.Loads.{says_within, says_too_long}
-use Rattle.refusals.specs.declared.Answer.TheVariants.{Accepted}
 use Rattle.refusals.specs.declared.Refusal.{Refusal}
 use Rattle.refusals.specs.declared.Refusal.TheVariants.{JobNumbers, Damaged, NoMachine, IdHeld, PlacesFull, HyperperiodTooLong}
 use Rattle.refusals.specs.Numbers.{refusal_number}
 use Rattle.planner.specs.declared.Roster.{Roster}
-use Rattle.planner.specs.declared.Offering.{Offering}
+use Rattle.planner.specs.declared.Offer.{Offer}
 use Rattle.planner.specs.declared.Condition.TheVariants as condition
 use Rattle.planner.specs.Tests.{cycle_too_long}
 use Rattle.planner.specs.Model.{Model, Closed, Opened, Admit, Outcome, refused, accepted, refuse_if, is_opened, on_machine, weighed, admitted, step}
@@ -34,11 +33,6 @@ use Rattle.planner.specs.Claims.{IsSound, WithOneMore, admitted_of, Offers}
 use Rattle.planner.proofs.Passing.{not_long, long_not}
 use Rattle.planner.proofs.Forms.{rules_listed, sound_form, form_sound, model_none, kept_form, kept_model}
 use Rattle.planner.proofs.Replies.{is_damaged, is_closed, is_opened_law, on_open, held_count, places_carried, load_is}
-
--- The right refusal, with the places that came.
-pub turned_away : {result answer : Offering} {lent : Roster} {given : Refusal} (r : Roster) (right : Refusal)
-    → result ≡ offering_as lent (refused given) → lent ≡ r → given ≡ right → offering_as r (refused right) ≡ answer → result ≡ answer
-turned_away r right e same f g = e ∙ ap₂ (λ (q : Roster) (x : Refusal). offering_as q (refused x)) same f ∙ g
 
 -- ---- By what the roster was found to be
 
@@ -51,14 +45,14 @@ module _ (r : Roster) (id cost period deadline : ℕ) where
   unfolding offer_on
   offer_well e = rw (e, offer_on)
 
-  as_offered : (o : Outcome) → offer_on r id cost period deadline ≡ o → offering_as r o ≡ offering_to r id cost period deadline
+  as_offered : (o : Outcome) → offer_on r id cost period deadline ≡ o → offering_as o ≡ offering_to r id cost period deadline
   unfolding offering_to
-  as_offered o e = ap (offering_as r) (sym e)
+  as_offered o e = ap offering_as (sym e)
 
-  pub offer_damaged : inspected r ≡ condition.Damaged → offering_as r (refused Damaged) ≡ offering_to r id cost period deadline
+  pub offer_damaged : inspected r ≡ condition.Damaged → offering_as (refused Damaged) ≡ offering_to r id cost period deadline
   offer_damaged e = as_offered (refused Damaged) (offer_unformed (is_damaged r e))
 
-  pub offer_11 : inspected r ≡ condition.Closed → offering_as r (refused NoMachine) ≡ offering_to r id cost period deadline
+  pub offer_11 : inspected r ≡ condition.Closed → offering_as (refused NoMachine) ≡ offering_to r id cost period deadline
   unfolding offer on_machine
   offer_11 e = as_offered (refused NoMachine) (offer_well (is_closed r e).0 ∙ ap (λ m. offer m id cost period deadline) (is_closed r e).1)
 
@@ -76,32 +70,32 @@ module _ (r : Roster) (entries : length r.table ≡ 32) (places : length r.jobs 
     on_sound : offer_on r id cost period deadline ≡ offer (Opened M numbers jobs) id cost period deadline
     on_sound = offer_well r id cost period deadline (sound_form r entries places s) ∙ ap (λ m. offer m id cost period deadline) (is_opened_law r entries places s)
 
-    pub offer_4 : job_fits id cost period deadline ≡ false → offering_as r (refused JobNumbers) ≡ offering_to r id cost period deadline
+    pub offer_4 : job_fits id cost period deadline ≡ false → offering_as (refused JobNumbers) ≡ offering_to r id cost period deadline
     unfolding offer on_machine refuse_if
     offer_4 e = as_offered r id cost period deadline (refused JobNumbers) (on_sound ∙ rw e)
 
-    pub offer_in : job_fits id cost period deadline ≡ true → offering_as r (on_machine (model_of r) (offered (job_due id cost period deadline))) ≡ offering_to r id cost period deadline
+    pub offer_in : job_fits id cost period deadline ≡ true → offering_as (on_machine (model_of r) (offered (job_due id cost period deadline))) ≡ offering_to r id cost period deadline
     unfolding offer on_machine refuse_if
     offer_in e =
-        ap (offering_as r) (on_open r entries places s (offered (job_due id cost period deadline)))
+        ap offering_as (on_open r entries places s (offered (job_due id cost period deadline)))
         ∙ as_offered r id cost period deadline (offered (job_due id cost period deadline) M numbers jobs) (on_sound ∙ rw e)
 
   module _ (new : Job) where
     abbrev more : List Job
     more = insert new jobs
 
-    abbrev asked : Offering
-    asked = offering_as r (on_machine (model_of r) (offered new))
+    abbrev asked : Result Offer Refusal
+    asked = offering_as (on_machine (model_of r) (offered new))
 
-    settled : (o : Outcome) → offered new M numbers jobs ≡ o → offering_as r o ≡ asked
-    settled o e = ap (offering_as r) (sym (on_open r entries places s (offered new) ∙ e))
+    settled : (o : Outcome) → offered new M numbers jobs ≡ o → offering_as o ≡ asked
+    settled o e = ap offering_as (sym (on_open r entries places s (offered new) ∙ e))
 
-    pub offer_held : has new.id jobs ≡ true → offering_as r (refused IdHeld) ≡ asked
+    pub offer_held : has new.id jobs ≡ true → offering_as (refused IdHeld) ≡ asked
     unfolding offered refuse_if
     offer_held e = settled (refused IdHeld) (rw e)
 
     module _ (fresh : has new.id jobs ≡ false) where
-      pub offer_full : 64 ≤ r.held → offering_as r (refused PlacesFull) ≡ asked
+      pub offer_full : 64 ≤ r.held → offering_as (refused PlacesFull) ≡ asked
       unfolding offered refuse_if
       offer_full h = settled (refused PlacesFull) (rw (fresh, le-leb 64 (length jobs) (omega (arith, held_count r entries places s))))
 
@@ -112,7 +106,7 @@ module _ (r : Roster) (entries : length r.table ≡ 32) (places : length r.jobs 
         load_more : load_of more ≡ l
         load_more = load_is r entries places s new fresh free in_range_law t t-is ∙ sym l-is
 
-        pub offer_long : l ≡ TooLong → offering_as r (refused HyperperiodTooLong) ≡ asked
+        pub offer_long : l ≡ TooLong → offering_as (refused HyperperiodTooLong) ≡ asked
         unfolding offered refuse_if cycle_too_long
         offer_long e =
             settled (refused HyperperiodTooLong)
@@ -120,11 +114,11 @@ module _ (r : Roster) (entries : length r.table ≡ 32) (places : length r.jobs 
 
         pub offer_more : (t' : Totals) → l ≡ Within t' → (at : ℕ) (new-places : List Job) → at ≡ before new.id jobs
             → new-places ≡ take 64 (take (suc r.held) (take at r.jobs ++ new ∷ drop at r.jobs) ++ drop (suc r.held) r.jobs)
-            → record { answer = Accepted; jobs = new-places; totals = t' } ≡ asked
+            → Ok (record { jobs = new-places; totals = t' }) ≡ asked
         unfolding offered refuse_if offering_as totals_in roster_of
         offer_more t' e at new-places here p =
             let said = says_within more t' (load_more ∙ e) in
-            ap₂ (λ (q : List Job) (u : Totals). record { answer = Accepted; jobs = q; totals = u })
+            ap₂ (λ (q : List Job) (u : Totals). Ok {E = Refusal} (let o : Offer = record { jobs = q; totals = u } in o))
             (p
             ∙ ap (λ (q : List Job). take 64 (take (suc r.held) (take at q ++ new ∷ drop at q) ++ drop (suc r.held) q)) (places_carried r entries places s)
             ∙ (placing.inserts new jobs).in_places r.held at (sym (held_count r entries places s)) here room)

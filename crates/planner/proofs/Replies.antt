@@ -27,7 +27,6 @@ use Rattle.workload.proofs.Loads.{load_within}
 use Rattle.workload.proofs.Results.{workload}
 use Rattle.planner.specs.declared.Roster.{Roster}
 use Rattle.planner.specs.declared.Reply.{Reply}
-use Rattle.refusals.specs.declared.Answer.TheVariants.{Accepted}
 use Rattle.planner.specs.declared.Condition.{Condition}
 use Rattle.planner.specs.declared.Condition.TheVariants as condition
 use Rattle.refusals.specs.declared.Refusal.{Refusal}
@@ -163,14 +162,14 @@ module _ (r : Roster) (e : inspected r ≡ condition.Closed) where
   retire_11 id = no_machine (Retire id) refl
 
 same_fields : (M : Machine) (t u : List ℕ) (a b : ℕ) (v w : List Job) → t ≡ u → a ≡ b → v ≡ w
-    → ◌≡◌ {A = Reply} (record { answer = Accepted; roster = record { machine = M; table = t; held = a; jobs = v } })
-    (record { answer = Accepted; roster = record { machine = M; table = u; held = b; jobs = w } })
-same_fields M t u a b v w e f g = ap (λ (r : Roster). record { answer = Accepted; roster = r }) (same_roster _ _ _ _ _ _ _ _ a b t u v w refl refl refl refl e f g)
+    → ◌≡◌ {A = Reply} (record { answer = Ok (tt {0}); roster = record { machine = M; table = t; held = a; jobs = v } })
+    (record { answer = Ok (tt {0}); roster = record { machine = M; table = u; held = b; jobs = w } })
+same_fields M t u a b v w e f g = ap (λ (r : Roster). record { answer = Ok (tt {0}); roster = r }) (same_roster _ _ _ _ _ _ _ _ a b t u v w refl refl refl refl e f g)
 
 module _ (r : Roster) (entries : length r.table ≡ 32) (places : length r.jobs ≡ 64) where
   -- A new machine on the empty roster.
   pub reply_opened : inspected r ≡ condition.Closed → (M : Machine) (new : List ℕ) → new ≡ entries_of (default_table M)
-      → record { answer = Accepted; roster = record { machine = M; table = new; held = r.held; jobs = r.jobs } } ≡ replied r (accepted (opened M))
+      → record { answer = Ok (tt {0}); roster = record { machine = M; table = new; held = r.held; jobs = r.jobs } } ≡ replied r (accepted (opened M))
   unfolding replied opened roster_of places_of empty_roster
   reply_opened e M new f =
       let empty : empty_roster ≡ r = ap roster_of (sym (is_closed r e).1) ∙ (form_rule r entries places).carries (is_closed r e).0 in
@@ -227,7 +226,7 @@ module _ (r : Roster) (entries : length r.table ≡ 32) (places : length r.jobs 
 
     -- Another table.
     pub reply_table : (values new : List ℕ) → is_table M values ≡ true → length values ≡ M.levels → new ≡ take 32 (entries_of values)
-        → record { answer = Accepted; roster = record { machine = M; table = new; held = r.held; jobs = r.jobs } }
+        → record { answer = Ok (tt {0}); roster = record { machine = M; table = new; held = r.held; jobs = r.jobs } }
         ≡ replied r (accepted (Opened M values jobs))
     unfolding replied roster_of
     reply_table values new t size e =
@@ -236,74 +235,20 @@ module _ (r : Roster) (entries : length r.table ≡ 32) (places : length r.jobs 
 
     -- ---- A job comes
 
-    module _ (new : Job) where
-      abbrev more : List Job
-      more = insert new jobs
+    module _ (new : Job) (fresh : has new.id jobs ≡ false) (free : r.held < 64) (in_range_law : JobInRange new) (t : Totals) (t-is : t ≡ totals jobs) where
+      pub with_range : (0 < t.hyperperiod) × (t.hyperperiod ≤ hyperperiod_limit) × (t.work ≤ 63 * 65535 * t.hyperperiod)
+      with_range =
+          workload.load_rule.range jobs s.rules.job_ranges (omega (arith, held_count)) t (load_within jobs s.rules.within_limit ∙ ap Within (sym t-is))
 
-      abbrev asked : Reply
-      asked = replied r (on_machine (model_of r) (admitted new))
-
-      settled : (o : Outcome) → admitted new M numbers jobs ≡ o → replied r o ≡ asked
-      settled o e = ap (replied r) (sym (on_open (admitted new) ∙ e))
-
-      pub enter_held : has new.id jobs ≡ true → replied r (refused IdHeld) ≡ asked
-      enter_held e = settled (refused IdHeld) (admit_13 M numbers jobs new e)
-
-      module _ (fresh : has new.id jobs ≡ false) where
-        pub enter_full : 64 ≤ r.held → replied r (refused PlacesFull) ≡ asked
-        enter_full h = settled (refused PlacesFull) (admit_15 M numbers jobs new fresh (omega (arith, held_count)))
-
-        module _ (free : r.held < 64) (in_range_law : JobInRange new) (t : Totals) (t-is : t ≡ totals jobs) where
-          room : length jobs < 64
-          room = omega (arith, held_count)
-
-          pub with_range : (0 < t.hyperperiod) × (t.hyperperiod ≤ hyperperiod_limit) × (t.work ≤ 63 * 65535 * t.hyperperiod)
-          with_range =
-              workload.load_rule.range jobs s.rules.job_ranges (omega (arith, room)) t (load_within jobs s.rules.within_limit ∙ ap Within (sym t-is))
-
-          -- The load with the new job, wherever it stands.
-          pub load_is : load_of more ≡ with_job t new
-          load_is =
-              let at = before new.id jobs in
-              ap load_of (placing.inserts new jobs).at_place
-              ∙ workload.load_rule.any_order new (take at jobs) (drop at jobs)
-              ∙ ap (λ (l : List Job). load_of (new ∷ l)) (take-append-drop at jobs)
-              ∙ workload.load_rule.one_more new jobs
-              ∙ ap (λ (u : Totals). with_job u new) (sym t-is)
-
-          ranges : InRange M
-          ranges = s.rules.machine_range
-
-          tells : (l : Load) → l ≡ with_job t new → (v : Verdict) → judged M.processors l ≡ v → Tells M more v
-          tells l l-is =
-              load_tells M ranges more ((placing.tests.jobs more).0 ((placing.inserts new jobs).listed_again in_range_law held_listed fresh)).0 l
-              (l-is ∙ sym load_is)
-
-          module _ (l : Load) (l-is : l ≡ with_job t new) where
-            pub enter_long : judged M.processors l ≡ verdict.TooLong → replied r (refused HyperperiodTooLong) ≡ asked
-            unfolding Tells cycle_too_long
-            enter_long e =
-                settled (refused HyperperiodTooLong) (admit_16 M numbers jobs new fresh room (lt-ltb hyperperiod_limit (hyperperiod more) (tells l l-is verdict.TooLong e)))
-
-            pub enter_none : judged M.processors l ≡ verdict.NoPlan → replied r (refused NoPlan) ≡ asked
-            unfolding Tells
-            enter_none e =
-                let told = tells l l-is verdict.NoPlan e in
-                settled (refused NoPlan) (admit_17 M numbers jobs new fresh room (long_not more told.0) (passes_none M ranges more told.1))
-
-            pub enter_in : judged M.processors l ≡ verdict.SomePlan → (at : ℕ) (new-places : List Job) → at ≡ before new.id jobs
-                → new-places ≡ take 64 (take (suc r.held) (take at r.jobs ++ new ∷ drop at r.jobs) ++ drop (suc r.held) r.jobs)
-                → record { answer = Accepted; roster = record { machine = M; table = r.table; held = r.held + 1; jobs = new-places } } ≡ asked
-            unfolding Tells replied roster_of
-            enter_in e at new-places here p =
-                let told = tells l l-is verdict.SomePlan e in
-                same_fields M r.table _ (r.held + 1) (length more) new-places (places_of more) entries_carried
-                (omega (arith, (placing.inserts new jobs).size, held_count))
-                (p
-                ∙ ap (λ (q : List Job). take 64 (take (suc r.held) (take at q ++ new ∷ drop at q) ++ drop (suc r.held) q)) places_carried
-                ∙ (placing.inserts new jobs).in_places r.held at (sym held_count) here room)
-                ∙ settled (accepted (Opened M numbers more))
-                (admit_0 M numbers jobs new fresh room (long_not more told.0) (passes_plan M ranges more told.1))
+      -- The load with the new job, wherever it stands.
+      pub load_is : load_of (insert new jobs) ≡ with_job t new
+      load_is =
+          let at = before new.id jobs in
+          ap load_of (placing.inserts new jobs).at_place
+          ∙ workload.load_rule.any_order new (take at jobs) (drop at jobs)
+          ∙ ap (λ (l : List Job). load_of (new ∷ l)) (take-append-drop at jobs)
+          ∙ workload.load_rule.one_more new jobs
+          ∙ ap (λ (u : Totals). with_job u new) (sym t-is)
 
     -- ---- A job goes
 
@@ -324,7 +269,7 @@ module _ (r : Roster) (entries : length r.table ≡ 32) (places : length r.jobs 
         pub leave_out : (at : ℕ) (new-places : List Job) → at ≡ before id jobs
             → new-places
             ≡ take 64 (take r.held (take at r.jobs ++ drop (suc at) (take r.held r.jobs) ++ no_job ∷ []) ++ drop r.held r.jobs)
-            → record { answer = Accepted; roster = record { machine = M; table = r.table; held = r.held - 1; jobs = new-places } } ≡ left
+            → record { answer = Ok (tt {0}); roster = record { machine = M; table = r.table; held = r.held - 1; jobs = new-places } } ≡ left
         unfolding replied roster_of
         leave_out at new-places here p =
             same_fields M r.table _ (r.held - 1) (length (remove id jobs)) new-places (places_of (remove id jobs)) entries_carried

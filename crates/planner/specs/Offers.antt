@@ -1,5 +1,5 @@
 -- A job that is offered without being admitted (02, 2026-01): "For a job not yet held, a library call refused as 03 is, but never by 17 …".
-use Rattle.std.specs.Prelude.{ℕ, true, false, not, List, leb, length}
+use Rattle.std.specs.Prelude.{ℕ, true, false, not, List, Result, Ok, Err, leb, length}
 use Rattle.gmf.specs.declared.Machine.{Machine}
 use Rattle.gmf.specs.declared.Job.{Job}
 use Rattle.gmf.specs.Jobs.{job_due}
@@ -7,10 +7,10 @@ use Rattle.ranges.specs.Ranges.{job_fits}
 use Rattle.places.specs.Places.{has, insert}
 use Rattle.workload.specs.declared.Totals.{Totals}
 use Rattle.workload.specs.Load.{totals}
+use Rattle.refusals.specs.declared.Refusal.{Refusal}
 use Rattle.refusals.specs.declared.Refusal.TheVariants.{JobNumbers, Damaged, IdHeld, PlacesFull, HyperperiodTooLong}
-use Rattle.refusals.specs.declared.Answer.TheVariants.{Accepted, Refused}
 use Rattle.planner.specs.declared.Roster.{Roster}
-use Rattle.planner.specs.declared.Offering.{Offering}
+use Rattle.planner.specs.declared.Offer.{Offer}
 use Rattle.planner.specs.Tests.{cycle_too_long}
 use Rattle.planner.specs.Model.{Model, Closed, Opened, Outcome, refused, accepted, refuse_if, on_machine}
 use Rattle.planner.specs.Roster.{model_of, roster_of, well_formed}
@@ -32,18 +32,15 @@ offer model id cost period deadline =
 unfoldable pub offer_on : Roster → ℕ → ℕ → ℕ → ℕ → Outcome
 offer_on r id cost period deadline = elim (well_formed r) [ true ↦ offer (model_of r) id cost period deadline | false ↦ refused Damaged ]
 
--- The totals of a model's jobs. Without a machine there are none, and where a job is turned down none are given.
-unfoldable pub no_totals : Totals
-no_totals = record { hyperperiod = 0; work = 0; fit = false }
-
+-- The totals of a model's jobs. Without a machine there are none.
 unfoldable pub totals_in : Model → Totals
-totals_in Closed = no_totals
+totals_in Closed = record { hyperperiod = 0; work = 0; fit = false }
 totals_in (Opened M table jobs) = totals jobs
 
--- The answer, the places and the totals that an offer comes to.
-unfoldable pub offering_as : Roster → Outcome → Offering
-offering_as r (refused refusal) = record { answer = Refused refusal; jobs = r.jobs; totals = no_totals }
-offering_as r (accepted model) = record { answer = Accepted; jobs = (roster_of model).jobs; totals = totals_in model }
+-- The refusal, or the places and the totals that an offer comes to.
+unfoldable pub offering_as : Outcome → Result Offer Refusal
+offering_as (refused refusal) = Err refusal
+offering_as (accepted model) = Ok (record { jobs = (roster_of model).jobs; totals = totals_in model })
 
-unfoldable pub offering_to : Roster → ℕ → ℕ → ℕ → ℕ → Offering
-offering_to r id cost period deadline = offering_as r (offer_on r id cost period deadline)
+unfoldable pub offering_to : Roster → ℕ → ℕ → ℕ → ℕ → Result Offer Refusal
+offering_to r id cost period deadline = offering_as (offer_on r id cost period deadline)

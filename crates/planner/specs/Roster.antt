@@ -1,14 +1,15 @@
 -- The roster: what it carries of the model, when it is well formed, and what a call on it replies.
-use Rattle.std.specs.Prelude.{Bool, true, false, not, ◌&&◌, ◌||◌, eqb, length, take, replicate}
+use Rattle.std.specs.Prelude.{Bool, true, false, not, ◌&&◌, ◌||◌, Result, Ok, Err, eqb, length, take, replicate}
 use Rattle.gmf.specs.Machine.{machine}
 use Rattle.places.specs.Places.{no_job, places_of}
 use Rattle.power_tables.specs.Entries.{entries_of}
+use Rattle.workload.specs.declared.Totals.{Totals}
 use Rattle.workload.specs.Load.{totals}
 use Rattle.planner.specs.declared.Roster.{Roster}
 use Rattle.planner.specs.declared.Condition.{Condition}
 use Rattle.planner.specs.declared.Condition.TheVariants as condition
-use Rattle.refusals.specs.declared.Refusal.TheVariants.{Damaged}
-use Rattle.refusals.specs.declared.Answer.TheVariants.{Accepted, Refused}
+use Rattle.refusals.specs.declared.Refusal.{Refusal}
+use Rattle.refusals.specs.declared.Refusal.TheVariants.{Damaged, NoMachine}
 use Rattle.planner.specs.declared.Reply.{Reply}
 use Rattle.roster_shape.specs.Shape as shape
 use Rattle.planner.specs.Tests.{cycle_too_long, no_plan}
@@ -57,10 +58,16 @@ condition_of (Opened M table jobs) = condition.Open (totals jobs)
 unfoldable pub inspected : Roster → Condition
 inspected r = elim (well_formed r) [ true ↦ condition_of (model_of r) | false ↦ condition.Damaged ]
 
+-- What a call that needs a machine finds: "11. A frame 02 to 05 with no machine open", after 7; or the totals of the jobs.
+unfoldable pub totals_found : Condition → Result Totals Refusal
+totals_found condition.Damaged = Err Damaged
+totals_found condition.Closed = Err NoMachine
+totals_found (condition.Open t) = Ok t
+
 -- "Each is returned as its number alone. Roster, table and every lent byte keep their values."
 unfoldable pub replied : Roster → Outcome → Reply
-replied r (refused refusal) = record { answer = Refused refusal; roster = r }
-replied r (accepted model) = record { answer = Accepted; roster = roster_of model }
+replied r (refused refusal) = record { answer = Err refusal; roster = r }
+replied r (accepted model) = record { answer = Ok (tt {0}); roster = roster_of model }
 
 -- What a call on a roster replies, and the next roster. 7 "is looked at before everything else".
 unfoldable pub reply_to : Roster → Call → Reply

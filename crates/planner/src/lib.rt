@@ -2,12 +2,14 @@
 // specs/.
 #![tactic(auto)]
 
-ghost use Rattle.std.specs.Prelude.{◌≡◌, true, ◌≤◌, take};
+ghost use Rattle.std.specs.Prelude.{◌≡◌, true, false, not, take};
+ghost use Rattle.gmf.specs.Machine.{machine};
 ghost use Rattle.gmf.specs.Jobs.{JobInRange, job_due};
 ghost use Rattle.places.specs.Places.{listed, has, before};
+ghost use Rattle.ranges.specs.Ranges.{one_to, job_fits, speeds_fit};
 ghost use Rattle.workload.specs.Load as load;
-ghost use Rattle.planner.specs.Model.{OpenMachine, ReplaceTable, Admit, Retire, refused, on_machine, admitted, retired};
-ghost use Rattle.planner.specs.Roster.{empty_roster, model_of, inspected, replied, reply_to};
+ghost use Rattle.planner.specs.Model.{OpenMachine, ReplaceTable, Admit, Retire, on_machine};
+ghost use Rattle.planner.specs.Roster.{empty_roster, model_of, inspected, totals_found, reply_to};
 ghost use Rattle.planner.specs.Offers.{offered, offering_as, offering_to};
 ghost use Rattle.planner.specs.Claims.{IsSound};
 
@@ -16,7 +18,7 @@ use house_table::default_table;
 use place_moves::{put_in, take_out};
 use power_tables::{accepts, entries_of};
 use ranges::{job_fits, one_to, speeds_fit};
-use refusals::{Answer, Refusal};
+use refusals::Refusal;
 use roster_shape::{in_shape, is_zero};
 use workload::{Load, Totals, Verdict, load_of};
 
@@ -40,89 +42,41 @@ pub enum Condition {
     Open(Totals),
 }
 
-// The answer to a call, and the roster that comes back.
+// The answer to a call, and the roster that comes back: the next one, or as it came where the call is refused.
 #[derive(Clone, Copy)]
 pub struct Reply {
-    pub answer: Answer,
+    pub answer: Result<(), Refusal>,
     pub roster: Roster,
 }
 
-// The answer to a job that is offered; the places with it, or as they are; and the totals with it, or none.
+// What is found of a job that is offered: the places with it, and the totals with it.
 #[derive(Clone, Copy)]
-pub struct Offering {
-    pub answer: Answer,
+pub struct Offer {
     pub jobs: [Job; 64],
     pub totals: Totals,
 }
 
-// How many of the first `held` jobs stand before an id: the ids rise, so each look halves what is left.
-fn place_of(jobs: [Job; 64], held: usize, id: u16) -> usize
-    requires { (held ≤ 64) × (listed (take held jobs) ≡ true) }
-    ensures { result ≡ before id (take held jobs) }
+// Where the job with an id stands among jobs by rising id, or else where it would.
+fn find(jobs: &[Job], id: u16) -> Result<usize, usize>
+    requires { listed jobs.now ≡ true }
+    ensures { result ≡ elim (has id jobs.now) [ true ↦ Ok (before id jobs.now) | false ↦ Err (before id jobs.now) ] }
 {
-    let mut low: usize = 0;
-    let mut high = held;
-    while low < high {
-        let middle = (low + high) / 2;
-        let job = jobs[middle];
-        if job.id < id {
-            low = middle + 1;
-        } else {
-            high = middle;
-        }
-    }
-    low
+    jobs.binary_search_by_key(&id, |job| job.id)
 }
 
-// Whether an id is held: its job then stands at the place found for it.
-fn stands_at(jobs: [Job; 64], held: usize, at: usize, id: u16) -> bool
-    requires { (held ≤ 64) × (listed (take held jobs) ≡ true) × (at ≡ before id (take held jobs)) }
-    ensures { result ≡ has id (take held jobs) }
+// The job of some numbers, where they are in range.
+fn job_of(id: u64, cost: u64, period: u64, deadline: u64) -> Option<Job>
+    ensures { result ≡ elim (job_fits id cost period deadline) [ true ↦ Some (job_due id cost period deadline) | false ↦ None ] }
 {
-    if held <= at {
-        return false;
+    if !job_fits(id, cost, period, deadline) {
+        return None;
     }
-    let job = jobs[at];
-    job.id == id
-}
-
-// The job of numbers that are in range.
-fn job_of(id: u64, cost: u64, period: u64, deadline: u64) -> Job
-    requires { JobInRange (job_due id cost period deadline) }
-    ensures { result ≡ job_due id cost period deadline }
-{
-    Job {
+    Some(Job {
         id: id as u16,
         cost: cost as u16,
         period: period as u16,
         deadline: deadline as u16,
-    }
-}
-
-// A refusal gives back the roster as it came.
-fn refuse(roster: Roster, refusal: Refusal) -> Reply
-    ensures { result ≡ replied roster (refused refusal) }
-{
-    Reply {
-        answer: Answer::Refused(refusal),
-        roster,
-    }
-}
-
-// A job that is turned down leaves the places as they are.
-fn turn_away(roster: Roster, refusal: Refusal) -> Offering
-    ensures { result ≡ offering_as roster (refused refusal) }
-{
-    let jobs = roster.jobs;
-    Offering {
-        answer: Answer::Refused(refusal),
-        jobs,
-        totals: Totals {
-            hyperperiod: 0,
-            work: 0,
-            fit: false,
-        },
-    }
+    })
 }
 
 impl Roster {
@@ -149,8 +103,8 @@ impl Roster {
     }
 
     // Looks at every rule. One pass over the places and one over the jobs for their load.
-    pub fn inspect(self) -> Condition
-        ensures { result ≡ inspected self }
+    pub fn inspect(&self) -> Condition
+        ensures { result ≡ inspected self.now }
     {
         let machine = self.machine;
         let table = self.table;
@@ -176,195 +130,157 @@ impl Roster {
         }
     }
 
-    // Opens a machine, with the default table.
-    pub fn open_machine(self, processors: u64, levels: u64, lowest: u64, step: u64) -> Reply
-        ensures { result ≡ reply_to self (OpenMachine processors levels lowest step) }
+    // What a call asks for that needs a machine: the totals of the jobs, or refusal 7 or 11.
+    pub fn totals(&self) -> Result<Totals, Refusal>
+        ensures { result ≡ totals_found (inspected self.now) }
     {
-        let condition = self.inspect();
-        match condition {
-            Condition::Damaged => refuse(self, Refusal::Damaged),
-            Condition::Open(_) => refuse(self, Refusal::MachineOpen),
-            Condition::Closed => {
-                if !one_to(32, processors) {
-                    return refuse(self, Refusal::Processors);
-                }
-                if !speeds_fit(levels, lowest, step) {
-                    return refuse(self, Refusal::Speeds);
-                }
-                let machine = Machine {
-                    processors: processors as u8,
-                    levels: levels as u8,
-                    lowest: lowest as u16,
-                    step: step as u8,
-                };
-                let table = default_table(machine);
-                let mut next = self;
-                next.machine = machine;
-                next.table = table;
-                Reply {
-                    answer: Answer::Accepted,
-                    roster: next,
-                }
-            }
+        match self.inspect() {
+            Condition::Damaged => Err(Refusal::Damaged),
+            Condition::Closed => Err(Refusal::NoMachine),
+            Condition::Open(totals) => Ok(totals),
         }
     }
 
-    // Puts another power table in force. A refusal gives back the roster that came, and not the one that has the table.
-    pub fn replace_table(self, values: &[u32]) -> Reply
+    // Opens a machine, with the default table.
+    pub fn open_machine(mut self, processors: u64, levels: u64, lowest: u64, step: u64) -> Reply
+        ensures { result ≡ reply_to self (OpenMachine processors levels lowest step) }
+    {
+        let answer = self.open(processors, levels, lowest, step);
+        Reply {
+            answer,
+            roster: self,
+        }
+    }
+
+    fn open(&mut self, processors: u64, levels: u64, lowest: u64, step: u64) -> Result<(), Refusal>
+        ensures { record { answer = result; roster = self.new } ≡ reply_to self.old (OpenMachine processors levels lowest step) }
+    {
+        match self.inspect() {
+            Condition::Damaged => return Err(Refusal::Damaged),
+            Condition::Open(_) => return Err(Refusal::MachineOpen),
+            Condition::Closed => {}
+        }
+        if !one_to(32, processors) {
+            return Err(Refusal::Processors);
+        }
+        if !speeds_fit(levels, lowest, step) {
+            return Err(Refusal::Speeds);
+        }
+        let machine = Machine {
+            processors: processors as u8,
+            levels: levels as u8,
+            lowest: lowest as u16,
+            step: step as u8,
+        };
+        let table = default_table(machine);
+        self.machine = machine;
+        self.table = table;
+        Ok(())
+    }
+
+    // Puts another power table in force.
+    pub fn replace_table(mut self, values: &[u32]) -> Reply
         ensures { result ≡ reply_to self (ReplaceTable values.now) }
     {
-        let condition = self.inspect();
-        match condition {
-            Condition::Damaged => refuse(self, Refusal::Damaged),
-            Condition::Closed => refuse(self, Refusal::NoMachine),
-            Condition::Open(_) => {
-                let machine = self.machine;
-                let entries = entries_of(values);
-                let mut next = self;
-                next.table = entries;
-                if !accepts(machine, values) {
-                    return refuse(self, Refusal::PowerTable);
-                }
-                Reply {
-                    answer: Answer::Accepted,
-                    roster: next,
-                }
-            }
+        let answer = self.replace(values);
+        Reply {
+            answer,
+            roster: self,
         }
+    }
+
+    fn replace(&mut self, values: &[u32]) -> Result<(), Refusal>
+        ensures { record { answer = result; roster = self.new } ≡ reply_to self.old (ReplaceTable values.now) }
+    {
+        self.totals()?;
+        if !accepts(self.machine, values) {
+            return Err(Refusal::PowerTable);
+        }
+        let table = entries_of(values);
+        self.table = table;
+        Ok(())
     }
 
     // Admits a job.
-    pub fn admit(self, id: u64, cost: u64, period: u64, deadline: u64) -> Reply
+    pub fn admit(mut self, id: u64, cost: u64, period: u64, deadline: u64) -> Reply
         ensures { result ≡ reply_to self (Admit id cost period deadline) }
     {
-        let condition = self.inspect();
-        match condition {
-            Condition::Damaged => refuse(self, Refusal::Damaged),
-            Condition::Closed => refuse(self, Refusal::NoMachine),
-            Condition::Open(totals) => {
-                if !job_fits(id, cost, period, deadline) {
-                    return refuse(self, Refusal::JobNumbers);
-                }
-                let job = job_of(id, cost, period, deadline);
-                self.enter(job, totals)
-            }
+        let answer = self.enter(id, cost, period, deadline);
+        Reply {
+            answer,
+            roster: self,
         }
     }
 
-    // A job in range goes in by its id. The load with it comes from the totals, so that the jobs are not passed again.
-    fn enter(self, job: Job, totals: Totals) -> Reply
-        requires { IsSound self × (totals ≡ load.totals (take self.held self.jobs)) × JobInRange job }
-        ensures { result ≡ replied self (on_machine (model_of self) (admitted job)) }
+    // A job is offered, and goes in where some plan passes with it.
+    fn enter(&mut self, id: u64, cost: u64, period: u64, deadline: u64) -> Result<(), Refusal>
+        ensures { record { answer = result; roster = self.new } ≡ reply_to self.old (Admit id cost period deadline) }
     {
-        let jobs = self.jobs;
+        let offer = self.offer(id, cost, period, deadline)?;
+        let verdict = Load::Within(offer.totals).judge(self.machine.processors);
+        let Verdict::SomePlan = verdict else {
+            return Err(Refusal::NoPlan);
+        };
+        let jobs = offer.jobs;
+        self.held += 1;
+        self.jobs = jobs;
+        Ok(())
+    }
+
+    // Offers a job without admitting it: refused as an admission is, but not for want of a plan.
+    pub fn offer(&self, id: u64, cost: u64, period: u64, deadline: u64) -> Result<Offer, Refusal>
+        ensures { result ≡ offering_to self.now id cost period deadline }
+    {
+        let totals = self.totals()?;
+        let job = job_of(id, cost, period, deadline).ok_or(Refusal::JobNumbers)?;
+        self.weigh(job, totals)
+    }
+
+    // The places with a job in range put in by its id. The load with it comes from the totals, so that the jobs are not passed again.
+    fn weigh(&self, job: Job, totals: Totals) -> Result<Offer, Refusal>
+        requires { IsSound self.now × (totals ≡ load.totals (take self.now.held self.now.jobs)) × JobInRange job }
+        ensures { result ≡ offering_as (on_machine (model_of self.now) (offered job)) }
+    {
         let held = self.held as usize;
-        let at = place_of(jobs, held, job.id);
-        if stands_at(jobs, held, at, job.id) {
-            return refuse(self, Refusal::IdHeld);
-        }
+        let Err(at) = find(&self.jobs[..held], job.id) else {
+            return Err(Refusal::IdHeld);
+        };
         if PLACES <= held {
-            return refuse(self, Refusal::PlacesFull);
+            return Err(Refusal::PlacesFull);
         }
-        let load = totals.with(job);
-        let processors = self.machine.processors;
-        let verdict = load.judge(processors);
-        match verdict {
-            Verdict::TooLong => refuse(self, Refusal::HyperperiodTooLong),
-            Verdict::NoPlan => refuse(self, Refusal::NoPlan),
-            Verdict::SomePlan => {
-                let with_it = put_in(jobs, held, at, job);
-                let mut next = self;
-                next.held = self.held + 1;
-                next.jobs = with_it;
-                Reply {
-                    answer: Answer::Accepted,
-                    roster: next,
-                }
-            }
-        }
+        let Load::Within(more) = totals.with(job) else {
+            return Err(Refusal::HyperperiodTooLong);
+        };
+        let jobs = put_in(self.jobs, held, at, job);
+        Ok(Offer { jobs, totals: more })
     }
 
     // Retires a job.
-    pub fn retire(self, id: u64) -> Reply
+    pub fn retire(mut self, id: u64) -> Reply
         ensures { result ≡ reply_to self (Retire id) }
     {
-        let condition = self.inspect();
-        match condition {
-            Condition::Damaged => refuse(self, Refusal::Damaged),
-            Condition::Closed => refuse(self, Refusal::NoMachine),
-            Condition::Open(_) => {
-                if !one_to(65535, id) {
-                    return refuse(self, Refusal::JobNumbers);
-                }
-                self.leave(id as u16)
-            }
+        let answer = self.leave(id);
+        Reply {
+            answer,
+            roster: self,
         }
     }
 
     // The job with an id goes out. The rest has no more work in its own hyperperiod, so that some plan still passes.
-    fn leave(self, id: u16) -> Reply
-        requires { IsSound self }
-        ensures { result ≡ replied self (on_machine (model_of self) (retired id)) }
+    fn leave(&mut self, id: u64) -> Result<(), Refusal>
+        ensures { record { answer = result; roster = self.new } ≡ reply_to self.old (Retire id) }
     {
-        let jobs = self.jobs;
+        self.totals()?;
+        if !one_to(65535, id) {
+            return Err(Refusal::JobNumbers);
+        }
         let held = self.held as usize;
-        let at = place_of(jobs, held, id);
-        if !stands_at(jobs, held, at, id) {
-            return refuse(self, Refusal::IdNotHeld);
-        }
-        let without_it = take_out(jobs, held, at);
-        let mut next = self;
-        next.held = self.held - 1;
-        next.jobs = without_it;
-        Reply {
-            answer: Answer::Accepted,
-            roster: next,
-        }
-    }
-
-    // Offers a job without admitting it: refused as an admission is, but not for want of a plan.
-    pub fn offer(self, id: u64, cost: u64, period: u64, deadline: u64) -> Offering
-        ensures { result ≡ offering_to self id cost period deadline }
-    {
-        let condition = self.inspect();
-        match condition {
-            Condition::Damaged => turn_away(self, Refusal::Damaged),
-            Condition::Closed => turn_away(self, Refusal::NoMachine),
-            Condition::Open(totals) => {
-                if !job_fits(id, cost, period, deadline) {
-                    return turn_away(self, Refusal::JobNumbers);
-                }
-                let job = job_of(id, cost, period, deadline);
-                self.weigh(job, totals)
-            }
-        }
-    }
-
-    // The places with a job in range put in by its id, and the totals with it.
-    fn weigh(self, job: Job, totals: Totals) -> Offering
-        requires { IsSound self × (totals ≡ load.totals (take self.held self.jobs)) × JobInRange job }
-        ensures { result ≡ offering_as self (on_machine (model_of self) (offered job)) }
-    {
-        let jobs = self.jobs;
-        let held = self.held as usize;
-        let at = place_of(jobs, held, job.id);
-        if stands_at(jobs, held, at, job.id) {
-            return turn_away(self, Refusal::IdHeld);
-        }
-        if PLACES <= held {
-            return turn_away(self, Refusal::PlacesFull);
-        }
-        let load = totals.with(job);
-        match load {
-            Load::TooLong => turn_away(self, Refusal::HyperperiodTooLong),
-            Load::Within(more) => {
-                let with_it = put_in(jobs, held, at, job);
-                Offering {
-                    answer: Answer::Accepted,
-                    jobs: with_it,
-                    totals: more,
-                }
-            }
-        }
+        let Ok(at) = find(&self.jobs[..held], id as u16) else {
+            return Err(Refusal::IdNotHeld);
+        };
+        let jobs = take_out(self.jobs, held, at);
+        self.jobs = jobs;
+        self.held -= 1;
+        Ok(())
     }
 }
