@@ -1,38 +1,64 @@
 -- A job that is offered: what comes of it on a model and on a roster, as the code finds it; and against an admission.
-use Prim.Native.Nat.{ℕ, suc, ◌≤◌, ◌<◌}
+use Prim.Native.Nat.{ℕ, suc, ◌+◌, ◌≤◌, ◌<◌}
 use native.Mathlib.Omega.{arith}
 use mathlib.Core.Path.{◌≡◌, refl, sym, ap, ap₂, ◌∙◌}
 use mathlib.Core.Bool.{Bool, true, false, false≢true}
+use Rattle.std.specs.Prelude.{Result, Ok, Err}
 use mathlib.Core.List.{List, ◌∷◌, ◌++◌}
 use borrow.Author.Tests.{le-leb, lt-leb, lt-ltb, leb-false, not-false}
 use lib.ListN.{length, take, drop}
 use Rattle.gmf.specs.declared.Machine.{Machine}
 use Rattle.gmf.specs.declared.Job.{Job}
 use Rattle.gmf.specs.Jobs.{JobInRange, hyperperiod, hyperperiod_limit, job_due}
-use Rattle.places.specs.Places.{has, before, insert}
+use Rattle.places.specs.Places.{places_of, has, before, insert}
 use Rattle.places.proofs.Results.{placing}
 use Rattle.ranges.specs.Ranges.{job_fits}
 use Rattle.ranges.proofs.Results.{ranging}
 use Rattle.workload.specs.declared.Totals.{Totals}
 use Rattle.workload.specs.declared.Load.{Load}
 use Rattle.workload.specs.declared.Load.TheVariants.{Within, TooLong}
-use Rattle.workload.specs.Load.{totals, load_of, with_job}
-use Rattle.workload.proofs.Loads.{says_within, says_too_long}
+use Rattle.workload.specs.declared.Verdict.{Verdict}
+use Rattle.workload.specs.declared.Verdict.TheVariants as verdict
+use Rattle.workload.specs.Load.{totals, load_of, with_job, judged}
+use Rattle.workload.specs.Claims.{Tells}
+use Rattle.workload.proofs.Loads.{says_within, says_too_long, load_within}
 use Rattle.refusals.specs.declared.Refusal.{Refusal}
-use Rattle.refusals.specs.declared.Refusal.TheVariants.{JobNumbers, Damaged, NoMachine, IdHeld, PlacesFull, HyperperiodTooLong}
+use Rattle.refusals.specs.declared.Refusal.TheVariants.{JobNumbers, Damaged, NoMachine, IdHeld, PlacesFull, HyperperiodTooLong, NoPlan}
 use Rattle.refusals.specs.Numbers.{refusal_number}
 use Rattle.planner.specs.declared.Roster.{Roster}
 use Rattle.planner.specs.declared.Offer.{Offer}
+use Rattle.planner.specs.declared.Condition.{Condition}
 use Rattle.planner.specs.declared.Condition.TheVariants as condition
-use Rattle.planner.specs.Tests.{cycle_too_long}
+use Rattle.planner.specs.Tests.{cycle_too_long, no_plan}
 use Rattle.planner.specs.Model.{Model, Closed, Opened, Admit, Outcome, refused, accepted, refuse_if, is_opened, on_machine, weighed, admitted, step}
-use Rattle.planner.specs.Roster.{model_of, roster_of, well_formed, inspected}
-use Rattle.planner.specs.Offers.{offered, offer, offer_on, totals_in, offering_as, offering_to}
+use Rattle.planner.specs.Roster.{model_of, roster_of, well_formed, inspected, totals_found, replied, reply_to}
+use Rattle.planner.specs.Offers.{job_in, offered, offer, offer_on, totals_in, offering_as, offering_to}
 use Rattle.planner.specs.Calls.{outcome_number}
 use Rattle.planner.specs.Claims.{IsSound, WithOneMore, admitted_of, Offers}
-use Rattle.planner.proofs.Passing.{not_long, long_not}
+use Rattle.planner.proofs.Passing.{not_long, long_not, passes_plan}
 use Rattle.planner.proofs.Forms.{rules_listed, sound_form, form_sound, model_none, kept_form, kept_model}
-use Rattle.planner.proofs.Replies.{is_damaged, is_closed, is_opened_law, on_open, held_count, places_carried, load_is}
+use Rattle.planner.proofs.Conditions.{load_tells}
+use Rattle.planner.proofs.TestRules.{passes_none}
+use Rattle.planner.proofs.Replies.{is_damaged, is_closed, refused_by, reply_unformed, reply_well, same_fields, is_opened_law, on_open, held_count, entries_carried, places_carried, load_is}
+
+-- ---- By the numbers
+
+module _ (id cost period deadline : ℕ) where
+  pub job_there : (new : Job) → Ok new ≡ job_in id cost period deadline → (job_fits id cost period deadline ≡ true) × (new ≡ job_due id cost period deadline)
+  unfolding job_in
+  job_there new e = go (job_fits id cost period deadline) refl
+    where
+      go : (b : Bool) → job_fits id cost period deadline ≡ b → (job_fits id cost period deadline ≡ true) × (new ≡ job_due id cost period deadline)
+      go true f = let z : ◌≡◌ {A = Result Job Refusal} (Ok new) (Ok (job_due id cost period deadline)) = e ∙ rw (f, job_in) in (f, cc)
+      go false f = let z : ◌≡◌ {A = Result Job Refusal} (Ok new) (Err JobNumbers) = e ∙ rw (f, job_in) in cc
+
+  pub no_job_there : (refusal : Refusal) → Err refusal ≡ job_in id cost period deadline → (job_fits id cost period deadline ≡ false) × (refusal ≡ JobNumbers)
+  unfolding job_in
+  no_job_there refusal e = go (job_fits id cost period deadline) refl
+    where
+      go : (b : Bool) → job_fits id cost period deadline ≡ b → (job_fits id cost period deadline ≡ false) × (refusal ≡ JobNumbers)
+      go true f = let z : ◌≡◌ {A = Result Job Refusal} (Err refusal) (Ok (job_due id cost period deadline)) = e ∙ rw (f, job_in) in cc
+      go false f = let z : ◌≡◌ {A = Result Job Refusal} (Err refusal) (Err JobNumbers) = e ∙ rw (f, job_in) in (f, cc)
 
 -- ---- By what the roster was found to be
 
@@ -49,12 +75,28 @@ module _ (r : Roster) (id cost period deadline : ℕ) where
   unfolding offering_to
   as_offered o e = ap offering_as (sym e)
 
-  pub offer_damaged : inspected r ≡ condition.Damaged → offering_as (refused Damaged) ≡ offering_to r id cost period deadline
+  pub offer_damaged : inspected r ≡ condition.Damaged → Err Damaged ≡ offering_to r id cost period deadline
+  unfolding offering_as
   offer_damaged e = as_offered (refused Damaged) (offer_unformed (is_damaged r e))
 
-  pub offer_11 : inspected r ≡ condition.Closed → offering_as (refused NoMachine) ≡ offering_to r id cost period deadline
-  unfolding offer on_machine
+  pub offer_11 : inspected r ≡ condition.Closed → Err NoMachine ≡ offering_to r id cost period deadline
+  unfolding offer on_machine offering_as
   offer_11 e = as_offered (refused NoMachine) (offer_well (is_closed r e).0 ∙ ap (λ m. offer m id cost period deadline) (is_closed r e).1)
+
+  pub offer_untotalled : (refusal : Refusal) → Err refusal ≡ totals_found (inspected r) → Err refusal ≡ offering_to r id cost period deadline
+  unfolding totals_found offering_as
+  offer_untotalled refusal e = go (inspected r) refl
+    where
+      go : (c : Condition) → inspected r ≡ c → Err refusal ≡ offering_to r id cost period deadline
+      go condition.Damaged f =
+          let z : ◌≡◌ {A = Result Totals Refusal} (Err refusal) (Err Damaged) = e ∙ ap totals_found f in
+          let same : refusal ≡ Damaged = cc in
+          rw same (offer_damaged f)
+      go condition.Closed f =
+          let z : ◌≡◌ {A = Result Totals Refusal} (Err refusal) (Err NoMachine) = e ∙ ap totals_found f in
+          let same : refusal ≡ NoMachine = cc in
+          rw same (offer_11 f)
+      go (condition.Open u) f = let z : Err refusal ≡ Ok u = e ∙ ap totals_found f in cc
 
 module _ (r : Roster) (entries : length r.table ≡ 32) (places : length r.jobs ≡ 64) (s : IsSound r) where
   abbrev M : Machine
@@ -70,8 +112,8 @@ module _ (r : Roster) (entries : length r.table ≡ 32) (places : length r.jobs 
     on_sound : offer_on r id cost period deadline ≡ offer (Opened M numbers jobs) id cost period deadline
     on_sound = offer_well r id cost period deadline (sound_form r entries places s) ∙ ap (λ m. offer m id cost period deadline) (is_opened_law r entries places s)
 
-    pub offer_4 : job_fits id cost period deadline ≡ false → offering_as (refused JobNumbers) ≡ offering_to r id cost period deadline
-    unfolding offer on_machine refuse_if
+    pub offer_4 : job_fits id cost period deadline ≡ false → Err JobNumbers ≡ offering_to r id cost period deadline
+    unfolding offer on_machine refuse_if offering_as
     offer_4 e = as_offered r id cost period deadline (refused JobNumbers) (on_sound ∙ rw e)
 
     pub offer_in : job_fits id cost period deadline ≡ true → offering_as (on_machine (model_of r) (offered (job_due id cost period deadline))) ≡ offering_to r id cost period deadline
@@ -90,13 +132,13 @@ module _ (r : Roster) (entries : length r.table ≡ 32) (places : length r.jobs 
     settled : (o : Outcome) → offered new M numbers jobs ≡ o → offering_as o ≡ asked
     settled o e = ap offering_as (sym (on_open r entries places s (offered new) ∙ e))
 
-    pub offer_held : has new.id jobs ≡ true → offering_as (refused IdHeld) ≡ asked
-    unfolding offered refuse_if
+    pub offer_held : has new.id jobs ≡ true → Err IdHeld ≡ asked
+    unfolding offered refuse_if offering_as
     offer_held e = settled (refused IdHeld) (rw e)
 
     module _ (fresh : has new.id jobs ≡ false) where
-      pub offer_full : 64 ≤ r.held → offering_as (refused PlacesFull) ≡ asked
-      unfolding offered refuse_if
+      pub offer_full : 64 ≤ r.held → Err PlacesFull ≡ asked
+      unfolding offered refuse_if offering_as
       offer_full h = settled (refused PlacesFull) (rw (fresh, le-leb 64 (length jobs) (omega (arith, held_count r entries places s))))
 
       module _ (free : r.held < 64) (in_range_law : JobInRange new) (t : Totals) (t-is : t ≡ totals jobs) (l : Load) (l-is : l ≡ with_job t new) where
@@ -106,8 +148,8 @@ module _ (r : Roster) (entries : length r.table ≡ 32) (places : length r.jobs 
         load_more : load_of more ≡ l
         load_more = load_is r entries places s new fresh free in_range_law t t-is ∙ sym l-is
 
-        pub offer_long : l ≡ TooLong → offering_as (refused HyperperiodTooLong) ≡ asked
-        unfolding offered refuse_if cycle_too_long
+        pub offer_long : l ≡ TooLong → Err HyperperiodTooLong ≡ asked
+        unfolding offered refuse_if cycle_too_long offering_as
         offer_long e =
             settled (refused HyperperiodTooLong)
             (rw (fresh, lt-leb 64 (length jobs) room, lt-ltb hyperperiod_limit (hyperperiod more) (says_too_long more (load_more ∙ e))))
@@ -118,7 +160,7 @@ module _ (r : Roster) (entries : length r.table ≡ 32) (places : length r.jobs 
         unfolding offered refuse_if offering_as totals_in roster_of
         offer_more t' e at new-places here p =
             let said = says_within more t' (load_more ∙ e) in
-            ap₂ (λ (q : List Job) (u : Totals). Ok {E = Refusal} (let o : Offer = record { jobs = q; totals = u } in o))
+            ap₂ (λ (q : List Job) (u : Totals). let o : Result Offer Refusal = Ok (record { jobs = q; totals = u }) in o)
             (p
             ∙ ap (λ (q : List Job). take 64 (take (suc r.held) (take at q ++ new ∷ drop at q) ++ drop (suc r.held) q)) (places_carried r entries places s)
             ∙ (placing.inserts new jobs).in_places r.held at (sym (held_count r entries places s)) here room)
@@ -257,6 +299,103 @@ module _ (id cost period deadline : ℕ) where
       go : (b : Bool) → well_formed r ≡ b → ⊥
       go true f = offer_opened (model_of r) (sym (offer_well r id cost period deadline f) ∙ e)
       go false f = never_refused Damaged Closed (sym (offer_unformed r id cost period deadline f) ∙ e)
+
+-- ---- An admission, by what is offered
+
+module _ (r : Roster) (id cost period deadline : ℕ) where
+  by_offer : reply_to r (Admit id cost period deadline) ≡ replied r (admitted_of (offer_on r id cost period deadline))
+  unfolding admitted_of
+  by_offer = go (well_formed r) refl
+    where
+      go : (b : Bool) → well_formed r ≡ b → reply_to r (Admit id cost period deadline) ≡ replied r (admitted_of (offer_on r id cost period deadline))
+      go true f =
+          reply_well r (Admit id cost period deadline) f
+          ∙ ap (replied r) (as_admitted id cost period deadline (model_of r) ∙ ap admitted_of (sym (offer_well r id cost period deadline f)))
+      go false f =
+          reply_unformed r (Admit id cost period deadline) f ∙ ap (λ o. replied r (admitted_of o)) (sym (offer_unformed r id cost period deadline f))
+
+  pub admit_refused : (refusal : Refusal) → Err refusal ≡ offering_to r id cost period deadline
+      → record { answer = Err refusal; roster = r } ≡ reply_to r (Admit id cost period deadline)
+  unfolding offering_to offering_as admitted_of
+  admit_refused refusal e = go (offer_on r id cost period deadline) refl
+    where
+      go : (o : Outcome) → offer_on r id cost period deadline ≡ o → record { answer = Err refusal; roster = r } ≡ reply_to r (Admit id cost period deadline)
+      go (refused other) f =
+          let z : ◌≡◌ {A = Result Offer Refusal} (Err refusal) (Err other) = e ∙ ap offering_as f in
+          let same : refusal ≡ other = cc in
+          refused_by (ap (λ (x : Refusal). replied r (refused x)) same ∙ ap (λ o. replied r (admitted_of o)) (sym f) ∙ sym by_offer)
+      go (accepted model) f =
+          let z : Err refusal ≡ offering_as (accepted model) = e ∙ ap offering_as f in
+          cc
+
+  module _ (entries : length r.table ≡ 32) (places : length r.jobs ≡ 64) where
+    abbrev joins : List Job
+    joins = insert (job_due id cost period deadline) (take r.held r.jobs)
+
+    -- What an offer that is not refused shows.
+    pub record Taken (o : Offer) : Type 0 where
+      pub sound : IsSound r
+      pub onto : offer_on r id cost period deadline ≡ accepted (Opened r.machine (take r.machine.levels r.table) joins)
+      pub places_are : o.jobs ≡ places_of joins
+      pub totals_are : o.totals ≡ totals joins
+      pub with_one_more : WithOneMore r joins
+
+    pub taken : (o : Offer) → Ok o ≡ offering_to r id cost period deadline → Taken o
+    unfolding offering_to offering_as totals_in roster_of
+    taken o e = go (offer_on r id cost period deadline) refl
+      where
+        go : (out : Outcome) → offer_on r id cost period deadline ≡ out → Taken o
+        go (refused other) f = let z : Ok o ≡ Err other = e ∙ ap offering_as f in cc
+        go (accepted Closed) f = absurd (some_machine id cost period deadline r f)
+        go (accepted (Opened M table jobs)) f =
+            let s : IsSound r
+            = form_sound r entries places (accepted_open id cost period deadline r entries places (Opened M table jobs) f)
+            (accepted_formed id cost period deadline r entries places (Opened M table jobs) f) in
+            let whole : Opened M table jobs ≡ Opened r.machine (take r.machine.levels r.table) joins
+            = adds id cost period deadline r.machine (take r.machine.levels r.table) (take r.held r.jobs) (Opened M table jobs)
+            (sym (on_sound r entries places s id cost period deadline) ∙ f) in
+            let onto : offer_on r id cost period deadline ≡ accepted (Opened r.machine (take r.machine.levels r.table) joins) = f ∙ ap accepted whole in
+            let z : ◌≡◌ {A = Result Offer Refusal} (Ok o) (Ok (record { jobs = places_of joins; totals = totals joins })) = e ∙ ap offering_as onto in
+            let same : ◌≡◌ {A = Offer} o (record { jobs = places_of joins; totals = totals joins }) = cc in
+            record {
+              sound = s;
+              onto = onto;
+              places_are = ap (λ (q : Offer). q.jobs) same;
+              totals_are = ap (λ (q : Offer). q.totals) same;
+              with_one_more = (one_more id cost period deadline r entries places r.machine (take r.machine.levels r.table) joins onto).1;
+            }
+
+    module _ (o : Offer) (t : Taken o) where
+      load_is_within : Within o.totals ≡ load_of joins
+      load_is_within = ap Within t.totals_are ∙ sym (load_within joins t.with_one_more.within_limit)
+
+      tells : (v : Verdict) → judged r.machine.processors (Within o.totals) ≡ v → Tells r.machine joins v
+      tells v e = load_tells r.machine t.with_one_more.machine_range joins t.with_one_more.job_ranges (Within o.totals) load_is_within v e
+
+      weighed_by : (b : Bool) → no_plan r.machine joins ≡ b
+          → replied r (refuse_if b NoPlan (accepted (Opened r.machine (take r.machine.levels r.table) joins))) ≡ reply_to r (Admit id cost period deadline)
+      unfolding admitted_of
+      weighed_by b f = sym (by_offer ∙ ap (λ o. replied r (admitted_of o)) t.onto ∙ ap (λ (c : Bool). replied r (refuse_if c NoPlan (accepted (Opened r.machine (take r.machine.levels r.table) joins)))) f)
+
+      pub admit_none : (judged r.machine.processors (Within o.totals) ≡ verdict.SomePlan → ⊥)
+          → record { answer = Err NoPlan; roster = r } ≡ reply_to r (Admit id cost period deadline)
+      unfolding Tells refuse_if
+      admit_none n = go (judged r.machine.processors (Within o.totals)) refl
+        where
+          go : (v : Verdict) → judged r.machine.processors (Within o.totals) ≡ v → record { answer = Err NoPlan; roster = r } ≡ reply_to r (Admit id cost period deadline)
+          go verdict.SomePlan f = absurd (n f)
+          go verdict.NoPlan f =
+              refused_by (weighed_by true (passes_none r.machine t.with_one_more.machine_range joins (tells verdict.NoPlan f).1))
+          go verdict.TooLong f = let long = tells verdict.TooLong f in absurd (omega (arith, t.with_one_more.within_limit))
+
+      pub admit_some : judged r.machine.processors (Within o.totals) ≡ verdict.SomePlan
+          → record { answer = Ok (tt {0}); roster = record { machine = r.machine; table = r.table; held = r.held + 1; jobs = o.jobs } }
+          ≡ reply_to r (Admit id cost period deadline)
+      unfolding Tells refuse_if replied roster_of
+      admit_some e =
+          same_fields r.machine r.table _ (r.held + 1) (length joins) o.jobs (places_of joins) (entries_carried r entries places t.sound)
+          (sym t.with_one_more.size) t.places_are
+          ∙ weighed_by false (passes_plan r.machine t.with_one_more.machine_range joins (tells verdict.SomePlan e).1)
 
 pub offers : Offers
 offers id cost period deadline = record {

@@ -1,28 +1,24 @@
 -- What a call on a roster replies, as the code finds it.
-use Prim.Native.Nat.{ℕ, suc, ◌+◌, ◌-◌, ◌*◌, ◌≤◌, ◌<◌}
+use Prim.Native.Nat.{ℕ, suc, ◌-◌, ◌*◌, ◌≤◌, ◌<◌}
 use native.Mathlib.Omega.{arith}
-use mathlib.Core.Path.{◌≡◌, refl, sym, ap, ap₂, ◌∙◌}
+use mathlib.Core.Path.{◌≡◌, refl, sym, ap, ◌∙◌}
 use mathlib.Core.Bool.{Bool, true, false}
+use Rattle.std.specs.Prelude.{Result, Ok, Err}
 use mathlib.Core.List.{List, [], ◌∷◌, ◌++◌}
-use borrow.Author.Tests.{lt-ltb}
 use lib.ListN.{length, take, drop, replicate, take-append-drop}
 use lib.Seq.{length-take-le, take_all}
 use Rattle.gmf.specs.declared.Machine.{Machine}
 use Rattle.gmf.specs.declared.Job.{Job}
-use Rattle.gmf.specs.Machine.{InRange}
-use Rattle.gmf.specs.Jobs.{JobInRange, hyperperiod, hyperperiod_limit}
+use Rattle.gmf.specs.Jobs.{JobInRange, hyperperiod_limit}
 use Rattle.gmf.specs.Power.{default_table}
+use Rattle.ranges.specs.Ranges.{one_to}
 use Rattle.places.specs.Places.{no_job, places_of, listed, has, before, insert, remove}
 use Rattle.places.proofs.Results.{placing}
 use Rattle.power_tables.specs.Entries.{entries_of}
 use Rattle.power_tables.proofs.Results.{table_laws}
 use Rattle.workload.specs.declared.Totals.{Totals}
-use Rattle.workload.specs.declared.Load.{Load}
 use Rattle.workload.specs.declared.Load.TheVariants.{Within}
-use Rattle.workload.specs.declared.Verdict.{Verdict}
-use Rattle.workload.specs.declared.Verdict.TheVariants as verdict
-use Rattle.workload.specs.Load.{totals, load_of, with_job, judged}
-use Rattle.workload.specs.Claims.{Tells}
+use Rattle.workload.specs.Load.{totals, load_of, with_job}
 use Rattle.workload.proofs.Loads.{load_within}
 use Rattle.workload.proofs.Results.{workload}
 use Rattle.planner.specs.declared.Roster.{Roster}
@@ -30,36 +26,13 @@ use Rattle.planner.specs.declared.Reply.{Reply}
 use Rattle.planner.specs.declared.Condition.{Condition}
 use Rattle.planner.specs.declared.Condition.TheVariants as condition
 use Rattle.refusals.specs.declared.Refusal.{Refusal}
-use Rattle.refusals.specs.declared.Refusal.TheVariants.{Damaged, NoMachine, MachineOpen, IdHeld, IdNotHeld, PlacesFull, HyperperiodTooLong, NoPlan}
+use Rattle.refusals.specs.declared.Refusal.TheVariants.{Damaged, NoMachine, MachineOpen, IdNotHeld}
 use Rattle.power_tables.specs.Tables.{is_table}
-use Rattle.planner.specs.Tests.{cycle_too_long}
-use Rattle.planner.specs.Model.{
-  Model,
-  Closed,
-  Opened,
-  Call,
-  OpenMachine,
-  ReplaceTable,
-  Admit,
-  Retire,
-  Outcome,
-  refused,
-  accepted,
-  refuse_if,
-  is_opened,
-  on_machine,
-  opened,
-  admitted,
-  retired,
-  step,
-}
-use Rattle.planner.specs.Roster.{empty_roster, model_of, roster_of, well_formed, condition_of, inspected, replied, reply_to}
+use Rattle.planner.specs.Model.{Model, Closed, Opened, Call, OpenMachine, Retire, Outcome, refused, accepted, refuse_if, is_opened, on_machine, opened, retired, step}
+use Rattle.planner.specs.Roster.{empty_roster, model_of, roster_of, well_formed, condition_of, inspected, totals_found, replied, reply_to}
 use Rattle.planner.specs.Claims.{IsSound, Inspects}
-use Rattle.planner.proofs.TestRules.{passes_none}
-use Rattle.planner.proofs.Passing.{long_not, passes_plan}
 use Rattle.planner.proofs.Forms.{same_roster, rules_listed, form_sound, sound_form, form_rule, model_open, model_none}
-use Rattle.planner.proofs.Conditions.{load_tells}
-use Rattle.planner.proofs.Outcomes.{admit_13, admit_15, admit_16, admit_17, admit_0, retire_14, retire_0}
+use Rattle.planner.proofs.Outcomes.{retire_in, retire_14, retire_0}
 
 -- ---- By what the roster was found to be
 
@@ -123,10 +96,10 @@ inspects r entries places = record {
 
 -- ---- Calls by their outcome
 
--- The right refusal, with the roster that came.
-pub refused_by : {result answer : Reply} {lent : Roster} {given : Refusal} (r : Roster) (right : Refusal)
-    → result ≡ replied lent (refused given) → lent ≡ r → given ≡ right → replied r (refused right) ≡ answer → result ≡ answer
-refused_by r right e same f g = e ∙ ap₂ (λ (q : Roster) (x : Refusal). replied q (refused x)) same f ∙ g
+-- A refusal, with the roster as it came.
+pub refused_by : {r : Roster} {refusal : Refusal} {answer : Reply} → replied r (refused refusal) ≡ answer → record { answer = Err refusal; roster = r } ≡ answer
+unfolding replied
+refused_by e = e
 
 pub reply_damaged : (r : Roster) (call : Call) → inspected r ≡ condition.Damaged → replied r (refused Damaged) ≡ reply_to r call
 unfolding reply_to
@@ -149,19 +122,35 @@ module _ (r : Roster) (e : inspected r ≡ condition.Closed) where
   no_machine : (call : Call) → step Closed call ≡ refused NoMachine → replied r (refused NoMachine) ≡ reply_to r call
   no_machine call = reply_closed call (refused NoMachine)
 
-  pub table_11 : (numbers : List ℕ) → replied r (refused NoMachine) ≡ reply_to r (ReplaceTable numbers)
-  unfolding step on_machine
-  table_11 numbers = no_machine (ReplaceTable numbers) refl
+-- ---- By what a call finds that needs a machine
 
-  pub admit_11 : (id cost period deadline : ℕ) → replied r (refused NoMachine) ≡ reply_to r (Admit id cost period deadline)
-  unfolding step on_machine
-  admit_11 id cost period deadline = no_machine (Admit id cost period deadline) refl
+module _ (r : Roster) where
+  pub totalled : (t : Totals) → Ok t ≡ totals_found (inspected r) → inspected r ≡ condition.Open t
+  unfolding totals_found
+  totalled t e = go (inspected r) refl
+    where
+      go : (c : Condition) → inspected r ≡ c → inspected r ≡ condition.Open t
+      go condition.Damaged f = let z : Ok t ≡ Err Damaged = e ∙ ap totals_found f in cc
+      go condition.Closed f = let z : Ok t ≡ Err NoMachine = e ∙ ap totals_found f in cc
+      go (condition.Open u) f = let z : ◌≡◌ {A = Result Totals Refusal} (Ok t) (Ok u) = e ∙ ap totals_found f in cc
 
-  pub retire_11 : (id : ℕ) → replied r (refused NoMachine) ≡ reply_to r (Retire id)
-  unfolding step on_machine
-  retire_11 id = no_machine (Retire id) refl
+  pub untotalled : (refusal : Refusal) (call : Call) → Err refusal ≡ totals_found (inspected r) → step Closed call ≡ refused NoMachine
+      → record { answer = Err refusal; roster = r } ≡ reply_to r call
+  unfolding totals_found
+  untotalled refusal call e closed = go (inspected r) refl
+    where
+      go : (c : Condition) → inspected r ≡ c → record { answer = Err refusal; roster = r } ≡ reply_to r call
+      go condition.Damaged f =
+          let z : ◌≡◌ {A = Result Totals Refusal} (Err refusal) (Err Damaged) = e ∙ ap totals_found f in
+          let same : refusal ≡ Damaged = cc in
+          rw same (refused_by (reply_damaged r call f))
+      go condition.Closed f =
+          let z : ◌≡◌ {A = Result Totals Refusal} (Err refusal) (Err NoMachine) = e ∙ ap totals_found f in
+          let same : refusal ≡ NoMachine = cc in
+          rw same (refused_by (no_machine r f call closed))
+      go (condition.Open u) f = let z : Err refusal ≡ Ok u = e ∙ ap totals_found f in cc
 
-same_fields : (M : Machine) (t u : List ℕ) (a b : ℕ) (v w : List Job) → t ≡ u → a ≡ b → v ≡ w
+pub same_fields : (M : Machine) (t u : List ℕ) (a b : ℕ) (v w : List Job) → t ≡ u → a ≡ b → v ≡ w
     → ◌≡◌ {A = Reply} (record { answer = Ok (tt {0}); roster = record { machine = M; table = t; held = a; jobs = v } })
     (record { answer = Ok (tt {0}); roster = record { machine = M; table = u; held = b; jobs = w } })
 same_fields M t u a b v w e f g = ap (λ (r : Roster). record { answer = Ok (tt {0}); roster = r }) (same_roster _ _ _ _ _ _ _ _ a b t u v w refl refl refl refl e f g)
@@ -201,11 +190,6 @@ module _ (r : Roster) (entries : length r.table ≡ 32) (places : length r.jobs 
     unfolding on_machine
     on_open rest = ap (λ m. on_machine m rest) is_opened_law
 
-    -- What is asked of an open roster by way of its model.
-    pub entered : (call : Call) (rest : Machine → List ℕ → List Job → Outcome) → step (Opened M numbers jobs) call ≡ rest M numbers jobs
-        → replied r (on_machine (model_of r) rest) ≡ reply_to r call
-    entered call rest e = ap (replied r) (on_open rest) ∙ reply_open call (rest M numbers jobs) e
-
     pub held_listed : listed jobs ≡ true
     held_listed = rules_listed M numbers jobs s.rules
 
@@ -216,7 +200,7 @@ module _ (r : Roster) (entries : length r.table ≡ 32) (places : length r.jobs 
     carried : roster_of (Opened M numbers jobs) ≡ r
     carried = ap roster_of (sym is_opened_law) ∙ (form_rule r entries places).carries (sound_form r entries places s)
 
-    entries_carried : r.table ≡ entries_of numbers
+    pub entries_carried : r.table ≡ entries_of numbers
     unfolding roster_of
     entries_carried = ap (λ (q : Roster). q.table) (sym carried)
 
@@ -252,14 +236,11 @@ module _ (r : Roster) (entries : length r.table ≡ 32) (places : length r.jobs 
 
     -- ---- A job goes
 
-    module _ (id : ℕ) where
-      abbrev left : Reply
-      left = replied r (on_machine (model_of r) (retired id))
+    module _ (id : ℕ) (ranged : one_to 65535 id ≡ true) where
+      gone : (o : Outcome) → retired id M numbers jobs ≡ o → replied r o ≡ reply_to r (Retire id)
+      gone o e = reply_open (Retire id) o (retire_in M numbers jobs id ranged ∙ e)
 
-      gone : (o : Outcome) → retired id M numbers jobs ≡ o → replied r o ≡ left
-      gone o e = ap (replied r) (sym (on_open (retired id) ∙ e))
-
-      pub leave_missing : has id jobs ≡ false → replied r (refused IdNotHeld) ≡ left
+      pub leave_missing : has id jobs ≡ false → replied r (refused IdNotHeld) ≡ reply_to r (Retire id)
       leave_missing e = gone (refused IdNotHeld) (retire_14 M numbers jobs id e)
 
       module _ (there : has id jobs ≡ true) where
@@ -269,7 +250,7 @@ module _ (r : Roster) (entries : length r.table ≡ 32) (places : length r.jobs 
         pub leave_out : (at : ℕ) (new-places : List Job) → at ≡ before id jobs
             → new-places
             ≡ take 64 (take r.held (take at r.jobs ++ drop (suc at) (take r.held r.jobs) ++ no_job ∷ []) ++ drop r.held r.jobs)
-            → record { answer = Ok (tt {0}); roster = record { machine = M; table = r.table; held = r.held - 1; jobs = new-places } } ≡ left
+            → record { answer = Ok (tt {0}); roster = record { machine = M; table = r.table; held = r.held - 1; jobs = new-places } } ≡ reply_to r (Retire id)
         unfolding replied roster_of
         leave_out at new-places here p =
             same_fields M r.table _ (r.held - 1) (length (remove id jobs)) new-places (places_of (remove id jobs)) entries_carried

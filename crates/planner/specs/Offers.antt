@@ -15,6 +15,10 @@ use Rattle.planner.specs.Tests.{cycle_too_long}
 use Rattle.planner.specs.Model.{Model, Closed, Opened, Outcome, refused, accepted, refuse_if, on_machine}
 use Rattle.planner.specs.Roster.{model_of, roster_of, well_formed}
 
+-- "4. An id, C or T not 1 to 65,535", and a D not from 1 to T: the job of some numbers.
+unfoldable pub job_in : ℕ → ℕ → ℕ → ℕ → Result Job Refusal
+job_in id cost period deadline = elim (job_fits id cost period deadline) [ true ↦ Ok (job_due id cost period deadline) | false ↦ Err JobNumbers ]
+
 -- "… with the job added …": 03's conditions 13, 15 and 16 in their order, and otherwise the jobs with it, whether or not a plan passes.
 unfoldable pub offered : Job → Machine → List ℕ → List Job → Outcome
 offered new M table jobs =

@@ -1,7 +1,8 @@
 -- The roster: what it carries of the model, when it is well formed, and what a call on it replies.
-use Rattle.std.specs.Prelude.{Bool, true, false, not, ◌&&◌, ◌||◌, Result, Ok, Err, eqb, length, take, replicate}
+use Rattle.std.specs.Prelude.{ℕ, List, Bool, true, false, not, ◌&&◌, ◌||◌, Result, Ok, Err, eqb, length, take, replicate}
+use Rattle.gmf.specs.declared.Job.{Job}
 use Rattle.gmf.specs.Machine.{machine}
-use Rattle.places.specs.Places.{no_job, places_of}
+use Rattle.places.specs.Places.{no_job, places_of, has, before}
 use Rattle.power_tables.specs.Entries.{entries_of}
 use Rattle.workload.specs.declared.Totals.{Totals}
 use Rattle.workload.specs.Load.{totals}
@@ -63,6 +64,10 @@ unfoldable pub totals_found : Condition → Result Totals Refusal
 totals_found condition.Damaged = Err Damaged
 totals_found condition.Closed = Err NoMachine
 totals_found (condition.Open t) = Ok t
+
+-- Where the job with an id stands among jobs by rising id, or else where it would.
+unfoldable pub found : ℕ → List Job → Result ℕ ℕ
+found id jobs = elim (has id jobs) [ true ↦ Ok (before id jobs) | false ↦ Err (before id jobs) ]
 
 -- "Each is returned as its number alone. Roster, table and every lent byte keep their values."
 unfoldable pub replied : Roster → Outcome → Reply

@@ -2,15 +2,13 @@
 // specs/.
 #![tactic(auto)]
 
-ghost use Rattle.std.specs.Prelude.{◌≡◌, true, false, not, take};
-ghost use Rattle.gmf.specs.Machine.{machine};
-ghost use Rattle.gmf.specs.Jobs.{JobInRange, job_due};
-ghost use Rattle.places.specs.Places.{listed, has, before};
-ghost use Rattle.ranges.specs.Ranges.{one_to, job_fits, speeds_fit};
+ghost use Rattle.std.specs.Prelude.{◌≡◌, true, take};
+ghost use Rattle.gmf.specs.Jobs.{JobInRange};
+ghost use Rattle.places.specs.Places.{listed};
 ghost use Rattle.workload.specs.Load as load;
 ghost use Rattle.planner.specs.Model.{OpenMachine, ReplaceTable, Admit, Retire, on_machine};
-ghost use Rattle.planner.specs.Roster.{empty_roster, model_of, inspected, totals_found, reply_to};
-ghost use Rattle.planner.specs.Offers.{offered, offering_as, offering_to};
+ghost use Rattle.planner.specs.Roster.{empty_roster, model_of, inspected, totals_found, found, reply_to};
+ghost use Rattle.planner.specs.Offers.{job_in, offered, offering_as, offering_to};
 ghost use Rattle.planner.specs.Claims.{IsSound};
 
 use gmf::{Job, Machine};
@@ -59,19 +57,19 @@ pub struct Offer {
 // Where the job with an id stands among jobs by rising id, or else where it would.
 fn find(jobs: &[Job], id: u16) -> Result<usize, usize>
     requires { listed jobs.now ≡ true }
-    ensures { result ≡ elim (has id jobs.now) [ true ↦ Ok (before id jobs.now) | false ↦ Err (before id jobs.now) ] }
+    ensures { result ≡ found id jobs.now }
 {
     jobs.binary_search_by_key(&id, |job| job.id)
 }
 
-// The job of some numbers, where they are in range.
-fn job_of(id: u64, cost: u64, period: u64, deadline: u64) -> Option<Job>
-    ensures { result ≡ elim (job_fits id cost period deadline) [ true ↦ Some (job_due id cost period deadline) | false ↦ None ] }
+// The job of some numbers, or refusal 4.
+fn job_of(id: u64, cost: u64, period: u64, deadline: u64) -> Result<Job, Refusal>
+    ensures { result ≡ job_in id cost period deadline }
 {
     if !job_fits(id, cost, period, deadline) {
-        return None;
+        return Err(Refusal::JobNumbers);
     }
-    Some(Job {
+    Ok(Job {
         id: id as u16,
         cost: cost as u16,
         period: period as u16,
@@ -232,7 +230,7 @@ impl Roster {
         ensures { result ≡ offering_to self.now id cost period deadline }
     {
         let totals = self.totals()?;
-        let job = job_of(id, cost, period, deadline).ok_or(Refusal::JobNumbers)?;
+        let job = job_of(id, cost, period, deadline)?;
         self.weigh(job, totals)
     }
 

@@ -1,0 +1,32 @@
+-- `planner::Roster::enter` meets its contract.
+use native.Mathlib.Omega.{arith}
+use mathlib.Core.Path.{◌≡◌, sym, ◌∙◌}
+use borrow.Author.Rules.{rules}
+use lib.ListN.{length}
+use Rattle.std.proofs.lemmas.Result.{err_from_is_err_and}
+use Rattle.planner.proofs.Offers.{admit_refused, taken, admit_none, admit_some}
+use Rattle.planner.proofs.Roster.enter.Goals as goal
+
+pub returns-in_err-offer : goal.returns-in_err-offer
+returns-in_err-offer c =
+    let p = err_from_is_err_and c.from_residual.result c.from_residual.ensures.1 in
+    rw (p.1, p.2) (admit_refused _ _ _ _ _ _ c.in_err-offer.ensures)
+
+pub returns-in_default : goal.returns-in_default
+returns-in_default c =
+    let entries : length c.args.self.now.table ≡ 32 = search rules in
+    let places : length c.args.self.now.jobs ≡ 64 = search rules in
+    admit_none _ _ _ _ _ entries places _ (taken _ _ _ _ _ entries places _ c.in_ok-offer.ensures) (λ e. c.in_default.not-SomePlan (c.judge-verdict.ensures ∙ e))
+
+pub overflow_add-self : goal.overflow_add-self
+overflow_add-self c =
+    let entries : length c.args.self.now.table ≡ 32 = search rules in
+    let places : length c.args.self.now.jobs ≡ 64 = search rules in
+    let t = taken _ _ _ _ _ entries places _ c.in_ok-offer.ensures in
+    omega (arith, t.with_one_more.size, t.with_one_more.few)
+
+pub returns : goal.returns
+returns c =
+    let entries : length c.args.self.now.table ≡ 32 = search rules in
+    let places : length c.args.self.now.jobs ≡ 64 = search rules in
+    admit_some _ _ _ _ _ entries places _ (taken _ _ _ _ _ entries places _ c.in_ok-offer.ensures) (sym c.judge-verdict.ensures ∙ c.in-SomePlan.is)
