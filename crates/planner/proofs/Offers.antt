@@ -1,7 +1,7 @@
 -- A job that is offered: what comes of it on a model and on a roster, as the code finds it; and against an admission.
 use Prim.Native.Nat.{ℕ, suc, ◌+◌, ◌≤◌, ◌<◌}
 use native.Mathlib.Omega.{arith}
-use mathlib.Core.Path.{◌≡◌, refl, sym, ap, ap₂, ◌∙◌}
+use mathlib.Core.Path.{◌≡◌, refl, sym, ap, ap₂, subst, ◌∙◌}
 use mathlib.Core.Bool.{Bool, true, false, false≢true}
 use Rattle.std.specs.Prelude.{Result, Ok, Err}
 use mathlib.Core.List.{List, ◌∷◌, ◌++◌}
@@ -39,7 +39,7 @@ use Rattle.planner.proofs.Passing.{not_long, long_not, passes_plan}
 use Rattle.planner.proofs.Forms.{rules_listed, sound_form, form_sound, model_none, kept_form, kept_model}
 use Rattle.planner.proofs.Conditions.{load_tells}
 use Rattle.planner.proofs.TestRules.{passes_none}
-use Rattle.planner.proofs.Replies.{is_damaged, is_closed, refused_by, reply_unformed, reply_well, same_fields, is_opened_law, on_open, held_count, entries_carried, places_carried, load_is}
+use Rattle.planner.proofs.Replies.{is_damaged, is_closed, refused_by, reply_unformed, reply_well, same_fields, is_opened_law, held_count, entries_carried, places_carried, load_is}
 
 -- ---- By the numbers
 
@@ -116,21 +116,22 @@ module _ (r : Roster) (entries : length r.table ≡ 32) (places : length r.jobs 
     unfolding offer on_machine refuse_if offering_as
     offer_4 e = as_offered r id cost period deadline (refused JobNumbers) (on_sound ∙ rw e)
 
-    pub offer_in : job_fits id cost period deadline ≡ true → offering_as (on_machine (model_of r) (offered (job_due id cost period deadline))) ≡ offering_to r id cost period deadline
-    unfolding offer on_machine refuse_if
-    offer_in e =
-        ap offering_as (on_open r entries places s (offered (job_due id cost period deadline)))
-        ∙ as_offered r id cost period deadline (offered (job_due id cost period deadline) M numbers jobs) (on_sound ∙ rw e)
-
-  module _ (new : Job) where
+  -- With a job in range.
+  module _ (id cost period deadline : ℕ) (fits : job_fits id cost period deadline ≡ true) (new : Job) (new-is : new ≡ job_due id cost period deadline) where
     abbrev more : List Job
     more = insert new jobs
 
     abbrev asked : Result Offer Refusal
-    asked = offering_as (on_machine (model_of r) (offered new))
+    asked = offering_to r id cost period deadline
+
+    in_range_law : JobInRange new
+    in_range_law = subst JobInRange (sym new-is) ((ranging.rule.one_job id cost period deadline).0 fits)
 
     settled : (o : Outcome) → offered new M numbers jobs ≡ o → offering_as o ≡ asked
-    settled o e = ap offering_as (sym (on_open r entries places s (offered new) ∙ e))
+    unfolding offer on_machine refuse_if
+    settled o e =
+        as_offered r id cost period deadline o
+        (on_sound id cost period deadline ∙ rw fits (ap (λ (job : Job). offered job M numbers jobs) (sym new-is) ∙ e))
 
     pub offer_held : has new.id jobs ≡ true → Err IdHeld ≡ asked
     unfolding offered refuse_if offering_as
@@ -141,7 +142,7 @@ module _ (r : Roster) (entries : length r.table ≡ 32) (places : length r.jobs 
       unfolding offered refuse_if offering_as
       offer_full h = settled (refused PlacesFull) (rw (fresh, le-leb 64 (length jobs) (omega (arith, held_count r entries places s))))
 
-      module _ (free : r.held < 64) (in_range_law : JobInRange new) (t : Totals) (t-is : t ≡ totals jobs) (l : Load) (l-is : l ≡ with_job t new) where
+      module _ (free : r.held < 64) (t : Totals) (t-is : t ≡ totals jobs) (l : Load) (l-is : l ≡ with_job t new) where
         room : length jobs < 64
         room = omega (arith, held_count r entries places s)
 

@@ -2,14 +2,11 @@
 // specs/.
 #![tactic(auto)]
 
-ghost use Rattle.std.specs.Prelude.{◌≡◌, true, take};
-ghost use Rattle.gmf.specs.Jobs.{JobInRange};
+ghost use Rattle.std.specs.Prelude.{◌≡◌, true};
 ghost use Rattle.places.specs.Places.{listed};
-ghost use Rattle.workload.specs.Load as load;
-ghost use Rattle.planner.specs.Model.{OpenMachine, ReplaceTable, Admit, Retire, on_machine};
-ghost use Rattle.planner.specs.Roster.{empty_roster, model_of, inspected, totals_found, found, reply_to};
-ghost use Rattle.planner.specs.Offers.{job_in, offered, offering_as, offering_to};
-ghost use Rattle.planner.specs.Claims.{IsSound};
+ghost use Rattle.planner.specs.Model.{OpenMachine, ReplaceTable, Admit, Retire};
+ghost use Rattle.planner.specs.Roster.{empty_roster, inspected, totals_found, found, reply_to};
+ghost use Rattle.planner.specs.Offers.{job_in, offering_to};
 
 use gmf::{Job, Machine};
 use house_table::default_table;
@@ -231,14 +228,6 @@ impl Roster {
     {
         let totals = self.totals()?;
         let job = job_of(id, cost, period, deadline)?;
-        self.weigh(job, totals)
-    }
-
-    // The places with a job in range put in by its id. The load with it comes from the totals, so that the jobs are not passed again.
-    fn weigh(&self, job: Job, totals: Totals) -> Result<Offer, Refusal>
-        requires { IsSound self.now × (totals ≡ load.totals (take self.now.held self.now.jobs)) × JobInRange job }
-        ensures { result ≡ offering_as (on_machine (model_of self.now) (offered job)) }
-    {
         let held = self.held as usize;
         let Err(at) = find(&self.jobs[..held], job.id) else {
             return Err(Refusal::IdHeld);
@@ -246,6 +235,7 @@ impl Roster {
         if PLACES <= held {
             return Err(Refusal::PlacesFull);
         }
+        // the load with it comes from the totals, so that the jobs are not passed again
         let Load::Within(more) = totals.with(job) else {
             return Err(Refusal::HyperperiodTooLong);
         };
