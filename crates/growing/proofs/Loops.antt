@@ -17,7 +17,7 @@ use Rattle.gmf.specs.Growing.{Grown, NoPlan, demand, step, steps, growing, plan_
 use Rattle.gmf.proofs.Largest.{largest_zero}
 use Rattle.gmf.proofs.Steps.{paper_loop}
 use Rattle.selection.specs.Turns.{none_taken}
-use Rattle.workload.specs.declared.Verdict.TheVariants.{SomePlan}
+use Rattle.std.specs.Prelude.{Option, Some}
 use Rattle.growing.specs.declared.Plan.{Plan}
 use Rattle.growing.specs.Plan.{plan_from}
 use Rattle.growing.proofs.Levels.{Slowest, slowest_begin, slowest_next, slowest_up, plan_padded}
@@ -165,10 +165,10 @@ module _ (M : Machine) (jobs : List Job) (given : Given M jobs) where
 
   pub finished : (levels above : List ℕ) (raises supply taken : ℕ) (job : Job) (small : Bool) → Outer M jobs levels above raises supply taken job small (min m (length jobs))
       → (h : ℕ) → h ≡ H
-      → ◌≡◌ {A = Plan} (record { verdict = SomePlan; hyperperiod = h; raises = raises; levels = levels }) (plan_from H (plan_of M jobs))
+      → ◌≡◌ {A = Option Plan} (Some record { hyperperiod = h; raises = raises; levels = levels }) (plan_from H (plan_of M jobs))
   unfolding plan_of plan_from
   finished levels above raises supply taken job small o h e =
       let grown : plan_of M jobs ≡ Grown (take m levels) raises =
       paper_loop M H ws ∙ ap (λ (n : ℕ). steps M H ws (min m n)) (works_length M jobs given) ∙ o.same in
       let padded = plan_padded m given.machine.processors.1 o.grows.levels_are (omega arith) in
-      ap₂ (λ (t : ℕ) (l : List ℕ). record { verdict = SomePlan; hyperperiod = t; raises = raises; levels = l }) e padded ∙ ap (plan_from H) (sym grown)
+      ap₂ (λ (t : ℕ) (l : List ℕ). Some record { hyperperiod = t; raises = raises; levels = l }) e padded ∙ ap (plan_from H) (sym grown)

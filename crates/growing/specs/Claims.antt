@@ -1,5 +1,5 @@
 -- What is proved of the plan that is returned: `Planning` is all of it. Its proof is proofs/Results.antt.
-use Rattle.std.specs.Prelude.{ℕ, ◌-◌, ◌≤◌, ◌≡◌, List, [], ◌∷◌, length, take, drop, replicate}
+use Rattle.std.specs.Prelude.{ℕ, ◌-◌, ◌≤◌, ◌≡◌, ◌↔◌, List, [], ◌∷◌, length, take, drop, replicate, Some, None}
 use Rattle.gmf.specs.declared.Machine.{Machine}
 use Rattle.gmf.specs.declared.Job.{Job}
 use Rattle.gmf.specs.Machine.{InRange}
@@ -7,10 +7,8 @@ use Rattle.gmf.specs.Jobs.{hyperperiod, works}
 use Rattle.gmf.specs.Capacity.{IsPlan, PassesFor}
 use Rattle.gmf.specs.Power.{Convex, total}
 use Rattle.gmf.specs.Trials.{quarters, jobs_from}
-use Rattle.gmf.specs.Growing.{plan_of}
+use Rattle.gmf.specs.Growing.{NoPlan, plan_of}
 use Rattle.gmf.specs.Claims.{Least, NonePasses}
-use Rattle.workload.specs.declared.Verdict.TheVariants.{SomePlan, NoPlan}
-use Rattle.workload.specs.Load.{verdict_on}
 use Rattle.growing.specs.declared.Plan.{Plan}
 use Rattle.growing.specs.Plan.{planned}
 
@@ -27,19 +25,18 @@ pub record Returned (M : Machine) (jobs : List Job) (plan : Plan) : Type 0 where
   pub cheapest : (table : List ℕ) → length table ≡ M.levels → Convex table
       → (other : List ℕ) → IsPlan M other → PassesFor M jobs other → total table (levels_of M plan) ≤ total table other
 
--- For every machine in range and every list of jobs: the verdict is that of the method, it tells whether a plan passes, and where one does
--- the plan is such.
+-- For every machine in range and every list of jobs: there is no plan where the method has none, and then none passes; and one that is returned is
+-- such.
 pub record Answers (M : Machine) (jobs : List Job) : Type 0 where
-  pub verdict : (planned M jobs).verdict ≡ verdict_on (plan_of M jobs)
-  pub none : (planned M jobs).verdict ≡ NoPlan → NonePasses M (hyperperiod jobs) (works jobs)
-  pub plan : (planned M jobs).verdict ≡ SomePlan → Returned M jobs (planned M jobs)
+  pub verdict : (planned M jobs ≡ None) ↔ (plan_of M jobs ≡ NoPlan)
+  pub none : planned M jobs ≡ None → NonePasses M (hyperperiod jobs) (works jobs)
+  pub plan : (plan : Plan) → planned M jobs ≡ Some plan → Returned M jobs plan
 
 -- "m 4, costs 10 9 6 5 1, period 10 …"; and with a job 11/10.
 pub record PlanTrials : Type 0 where
   pub sheet : planned (quarters 4) (jobs_from 1 ((10, 10) ∷ (9, 10) ∷ (6, 10) ∷ (5, 10) ∷ (1, 10) ∷ []))
-      ≡ record { verdict = SomePlan; hyperperiod = 10; raises = 9; levels = 3 ∷ 3 ∷ 2 ∷ 1 ∷ replicate 28 0 }
-  pub no_plan_law : planned (quarters 4) (jobs_from 1 ((11, 10) ∷ []))
-      ≡ record { verdict = NoPlan; hyperperiod = 0; raises = 0; levels = replicate 32 0 }
+      ≡ Some (record { hyperperiod = 10; raises = 9; levels = 3 ∷ 3 ∷ 2 ∷ 1 ∷ replicate 28 0 })
+  pub no_plan_law : planned (quarters 4) (jobs_from 1 ((11, 10) ∷ [])) ≡ None
 
 pub record Planning : Type 0 where
   pub answers : (M : Machine) → InRange M → (jobs : List Job) → Answers M jobs

@@ -10,15 +10,14 @@ use Rattle.accessors.proofs.work_of.Goals as goal
 pub returns-then-ticks-eq0 : goal.returns-then-ticks-eq0
 unfolding work
 returns-then-ticks-eq0 c =
-    let s = c.before.before in
-    let none : window s.args.job ≡ 0 = sym c.window-ticks.ensures ∙ c.if-ticks-eq0.true in
-    sym (ap (λ (w : ℕ). s.args.job.cost * (s.args.hyperperiod / w)) none ∙ ap (λ (n : ℕ). s.args.job.cost * n) (div-zero s.args.hyperperiod) ∙ omega arith)
+    let a = c.args in
+    let none : window a.job ≡ 0 = sym c.window-ticks.ensures ∙ c.if-ticks-eq0.true in
+    sym (ap (λ (w : ℕ). a.job.cost * (a.hyperperiod / w)) none ∙ ap (λ (n : ℕ). a.job.cost * n) (div-zero a.hyperperiod) ∙ omega arith)
 
 share : (c : goal.After-struct_known-1) → c.args.hyperperiod / c.window-ticks.result ≤ 4294967295
 share c =
-    let s = c.before.before.before in
-    let h : s.args.hyperperiod < 4294967296 = search rules in
-    omega (arith, div-le_self s.args.hyperperiod c.window-ticks.result)
+    let h : c.args.hyperperiod < 4294967296 = search rules in
+    omega (arith, div-le_self c.args.hyperperiod c.window-ticks.result)
 
 pub overflow_cast-result-2 : goal.overflow_cast-result-2
 overflow_cast-result-2 c = omega (arith, share c)
@@ -34,6 +33,4 @@ overflow_mul-result c =
 
 pub returns : goal.returns
 unfolding work
-returns c =
-    let s = c.before.before.before in
-    ap (λ (w : ℕ). s.args.job.cost * (s.args.hyperperiod / w)) c.window-ticks.ensures
+returns c = ap (λ (w : ℕ). c.args.job.cost * (c.args.hyperperiod / w)) c.window-ticks.ensures

@@ -1,13 +1,8 @@
--- `workload::load_of` meets its contract: the totals are those of the jobs from i on.
-use Prim.Native.Nat.{◌≤◌}
-use mathlib.Core.Path.{◌≡◌}
-use lib.ListN.{take, drop}
-use Rattle.gmf.specs.Jobs.{hyperperiod, hyperperiod_limit}
-use Rattle.workload.specs.Load.{totals}
+-- `workload::load_of` meets its contract: the totals are those of the jobs that were gone through, from the last on.
+use Rattle.std.specs.Iterator.Adapters.{rev_source}
+use Rattle.std.specs.Slice.Iter.{iter_rest}
+use Rattle.workload.proofs.Loads.{Going}
 use Rattle.workload.proofs.load_of.Given as goal
 
-abbrev pub invariant-loop-i : goal.invariant-loop-i
-invariant-loop-i l = (l.i ≤ l.held) × (l.totals ≡ totals (drop l.i (take l.held l.jobs))) × (hyperperiod (drop l.i (take l.held l.jobs)) ≤ hyperperiod_limit)
-
-abbrev pub decreases-loop-i : goal.decreases-loop-i
-decreases-loop-i l = l.i
+abbrev pub invariant-loop-job : goal.invariant-loop-job
+invariant-loop-job l = Going l.jobs (iter_rest (rev_source l.job-iterator)) l.totals
