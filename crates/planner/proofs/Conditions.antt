@@ -1,9 +1,10 @@
 -- What a roster is found to be, by each way out of `inspect`, and what follows where it is open.
 use Prim.Native.Nat.{◌<◌}
 use native.Mathlib.Omega.{arith}
-use mathlib.Core.Path.{◌≡◌, sym, ap, subst, ◌∙◌}
+use mathlib.Core.Path.{◌≡◌, refl, sym, ap, subst, ◌∙◌}
 use mathlib.Core.Bool.{true, false}
 use mathlib.Core.List.{List}
+use Rattle.std.specs.Prelude.{Option, Some, None, Result, Ok, Err, is_err}
 use borrow.Author.Tests.{lt-ltb}
 use lib.ListN.{length, take}
 use Rattle.gmf.specs.declared.Machine.{Machine}
@@ -12,12 +13,9 @@ use Rattle.gmf.specs.Machine.{InRange}
 use Rattle.gmf.specs.Jobs.{JobInRange, Every, hyperperiod, hyperperiod_limit}
 use Rattle.gmf.proofs.Hyperperiod.{in_range_positive}
 use Rattle.workload.specs.declared.Totals.{Totals}
-use Rattle.workload.specs.declared.Load.{Load}
-use Rattle.workload.specs.declared.Load.TheVariants.{Within}
-use Rattle.workload.specs.declared.Load.TheVariants as load
-use Rattle.workload.specs.declared.Verdict.{Verdict}
-use Rattle.workload.specs.declared.Verdict.TheVariants as verdict
-use Rattle.workload.specs.Load.{load_of, judged}
+use Rattle.workload.specs.declared.Unplanned.{Unplanned}
+use Rattle.workload.specs.declared.Unplanned.TheVariants as unplanned
+use Rattle.workload.specs.Load.{Verdict, load_of, judged}
 use Rattle.workload.specs.Claims.{Tells}
 use Rattle.workload.proofs.Loads.{says_within, says_too_long}
 use Rattle.workload.proofs.Results.{workload}
@@ -40,7 +38,7 @@ unfolding inspected
 undamaged r e = rw (e, inspected)
 
 -- What a load tells of its jobs.
-pub load_tells : (M : Machine) → InRange M → (jobs : List Job) → Every JobInRange jobs → (l : Load) → l ≡ load_of jobs
+pub load_tells : (M : Machine) → InRange M → (jobs : List Job) → Every JobInRange jobs → (l : Option Totals) → l ≡ load_of jobs
     → (v : Verdict) → judged M.processors l ≡ v → Tells M jobs v
 load_tells M in_range_law jobs ranges l l-is v e =
     let judges = workload.judges M in_range_law jobs (in_range_positive jobs ranges) in
@@ -66,7 +64,7 @@ module _ (r : Roster) (not_zero : all_zero r ≡ false) where
   inspect_shapeless e = damaged r (not_empty ∙ rw e)
 
   module _ (entries : length r.table ≡ 32) (places : length r.jobs ≡ 64) (shape : in_shape r ≡ true)
-      (l : Load) (l-is : l ≡ load_of jobs) where
+      (l : Option Totals) (l-is : l ≡ load_of jobs) where
     parts : Shape r entries places
     parts = shape_of r entries places shape
 
@@ -79,27 +77,32 @@ module _ (r : Roster) (not_zero : all_zero r ≡ false) where
     tells : (v : Verdict) → judged r.machine.processors l ≡ v → Tells r.machine jobs v
     tells = load_tells r.machine in_range_law jobs parts.job_ranges l l-is
 
-    pub inspect_open : (t : Totals) → Within t ≡ l → judged r.machine.processors l ≡ verdict.SomePlan → condition.Open t ≡ inspected r
+    pub inspect_open : (t : Totals) → Some t ≡ l → is_err (judged r.machine.processors (Some t)) ≡ false → condition.Open t ≡ inspected r
     unfolding sound condition_of Tells
-    inspect_open t e v =
-        let told = tells verdict.SomePlan v in
-        ap condition.Open (says_within jobs t (sym (e ∙ l-is))).0
-        ∙ ap condition_of (sym (model_open r some))
-        ∙ undamaged r (not_empty ∙ rw (shape, long_not jobs told.0, passes_plan r.machine in_range_law jobs told.1))
-
-    pub inspect_no_plan : judged r.machine.processors l ≡ verdict.NoPlan → condition.Damaged ≡ inspected r
-    unfolding sound Tells
-    inspect_no_plan v =
-        let told = tells verdict.NoPlan v in
-        damaged r (not_empty ∙ rw (shape, long_not jobs told.0, passes_none r.machine in_range_law jobs told.1))
+    inspect_open t e n = go (judged r.machine.processors (Some t)) refl
+      where
+        go : (v : Verdict) → judged r.machine.processors (Some t) ≡ v → condition.Open t ≡ inspected r
+        go (Ok u) v =
+            let told = tells (Ok u) (ap (judged r.machine.processors) (sym e) ∙ v) in
+            ap condition.Open (says_within jobs t (sym (e ∙ l-is))).0
+            ∙ ap condition_of (sym (model_open r some))
+            ∙ undamaged r (not_empty ∙ rw (shape, long_not jobs told.0, passes_plan r.machine in_range_law jobs told.1))
+        go (Err why) v = let z : true ≡ false = sym (ap is_err v) ∙ n in cc
 
     too_long : hyperperiod_limit < hyperperiod jobs → condition.Damaged ≡ inspected r
     unfolding sound cycle_too_long
     too_long h = damaged r (not_empty ∙ rw (shape, lt-ltb hyperperiod_limit (hyperperiod jobs) h))
 
-    pub inspect_too_long : judged r.machine.processors l ≡ verdict.TooLong → condition.Damaged ≡ inspected r
-    unfolding Tells
-    inspect_too_long v = too_long (tells verdict.TooLong v)
+    pub inspect_unplanned : (t : Totals) → Some t ≡ l → is_err (judged r.machine.processors (Some t)) ≡ true → condition.Damaged ≡ inspected r
+    unfolding sound Tells
+    inspect_unplanned t e n = go (judged r.machine.processors (Some t)) refl
+      where
+        go : (v : Verdict) → judged r.machine.processors (Some t) ≡ v → condition.Damaged ≡ inspected r
+        go (Ok u) v = let z : false ≡ true = sym (ap is_err v) ∙ n in cc
+        go (Err unplanned.NoPlan) v =
+            let told = tells (Err unplanned.NoPlan) (ap (judged r.machine.processors) (sym e) ∙ v) in
+            damaged r (not_empty ∙ rw (shape, long_not jobs told.0, passes_none r.machine in_range_law jobs told.1))
+        go (Err unplanned.TooLong) v = too_long (tells (Err unplanned.TooLong) (ap (judged r.machine.processors) (sym e) ∙ v))
 
-    pub inspect_long_load : l ≡ load.TooLong → condition.Damaged ≡ inspected r
-    inspect_long_load e = too_long (says_too_long jobs (sym l-is ∙ e))
+    pub inspect_long : l ≡ None → condition.Damaged ≡ inspected r
+    inspect_long e = too_long (says_too_long jobs (sym l-is ∙ e))

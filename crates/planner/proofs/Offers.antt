@@ -3,7 +3,7 @@ use Prim.Native.Nat.{ℕ, suc, ◌+◌, ◌≤◌, ◌<◌}
 use native.Mathlib.Omega.{arith}
 use mathlib.Core.Path.{◌≡◌, refl, sym, ap, ap₂, subst, ◌∙◌}
 use mathlib.Core.Bool.{Bool, true, false, false≢true}
-use Rattle.std.specs.Prelude.{Result, Ok, Err}
+use Rattle.std.specs.Prelude.{Option, Some, None, Result, Ok, Err, is_err}
 use mathlib.Core.List.{List, ◌∷◌, ◌++◌}
 use borrow.Author.Tests.{le-leb, lt-leb, lt-ltb, leb-false, not-false}
 use lib.ListN.{length, take, drop}
@@ -15,11 +15,9 @@ use Rattle.places.proofs.Results.{placing}
 use Rattle.ranges.specs.Ranges.{job_fits}
 use Rattle.ranges.proofs.Results.{ranging}
 use Rattle.workload.specs.declared.Totals.{Totals}
-use Rattle.workload.specs.declared.Load.{Load}
-use Rattle.workload.specs.declared.Load.TheVariants.{Within, TooLong}
-use Rattle.workload.specs.declared.Verdict.{Verdict}
-use Rattle.workload.specs.declared.Verdict.TheVariants as verdict
-use Rattle.workload.specs.Load.{totals, load_of, with_job, judged}
+use Rattle.workload.specs.declared.Unplanned.{Unplanned}
+use Rattle.workload.specs.declared.Unplanned.TheVariants as unplanned
+use Rattle.workload.specs.Load.{Verdict, totals, load_of, with_job, judged}
 use Rattle.workload.specs.Claims.{Tells}
 use Rattle.workload.proofs.Loads.{says_within, says_too_long, load_within}
 use Rattle.refusals.specs.declared.Refusal.{Refusal}
@@ -142,20 +140,20 @@ module _ (r : Roster) (entries : length r.table ≡ 32) (places : length r.jobs 
       unfolding offered refuse_if offering_as
       offer_full h = settled (refused PlacesFull) (rw (fresh, le-leb 64 (length jobs) (omega (arith, held_count r entries places s))))
 
-      module _ (free : r.held < 64) (t : Totals) (t-is : t ≡ totals jobs) (l : Load) (l-is : l ≡ with_job t new) where
+      module _ (free : r.held < 64) (t : Totals) (t-is : t ≡ totals jobs) (l : Option Totals) (l-is : l ≡ with_job t new) where
         room : length jobs < 64
         room = omega (arith, held_count r entries places s)
 
         load_more : load_of more ≡ l
         load_more = load_is r entries places s new fresh free in_range_law t t-is ∙ sym l-is
 
-        pub offer_long : l ≡ TooLong → Err HyperperiodTooLong ≡ asked
+        pub offer_long : l ≡ None → Err HyperperiodTooLong ≡ asked
         unfolding offered refuse_if cycle_too_long offering_as
         offer_long e =
             settled (refused HyperperiodTooLong)
             (rw (fresh, lt-leb 64 (length jobs) room, lt-ltb hyperperiod_limit (hyperperiod more) (says_too_long more (load_more ∙ e))))
 
-        pub offer_more : (t' : Totals) → l ≡ Within t' → (at : ℕ) (new-places : List Job) → at ≡ before new.id jobs
+        pub offer_more : (t' : Totals) → l ≡ Some t' → (at : ℕ) (new-places : List Job) → at ≡ before new.id jobs
             → new-places ≡ take 64 (take (suc r.held) (take at r.jobs ++ new ∷ drop at r.jobs) ++ drop (suc r.held) r.jobs)
             → Ok (record { jobs = new-places; totals = t' }) ≡ asked
         unfolding offered refuse_if offering_as totals_in roster_of
@@ -367,36 +365,42 @@ module _ (r : Roster) (id cost period deadline : ℕ) where
             }
 
     module _ (o : Offer) (t : Taken o) where
-      load_is_within : Within o.totals ≡ load_of joins
-      load_is_within = ap Within t.totals_are ∙ sym (load_within joins t.with_one_more.within_limit)
+      load_is_within : Some o.totals ≡ load_of joins
+      load_is_within = ap Some t.totals_are ∙ sym (load_within joins t.with_one_more.within_limit)
 
-      tells : (v : Verdict) → judged r.machine.processors (Within o.totals) ≡ v → Tells r.machine joins v
-      tells v e = load_tells r.machine t.with_one_more.machine_range joins t.with_one_more.job_ranges (Within o.totals) load_is_within v e
+      tells : (v : Verdict) → judged r.machine.processors (Some o.totals) ≡ v → Tells r.machine joins v
+      tells v e = load_tells r.machine t.with_one_more.machine_range joins t.with_one_more.job_ranges (Some o.totals) load_is_within v e
 
       weighed_by : (b : Bool) → no_plan r.machine joins ≡ b
           → replied r (refuse_if b NoPlan (accepted (Opened r.machine (take r.machine.levels r.table) joins))) ≡ reply_to r (Admit id cost period deadline)
       unfolding admitted_of
       weighed_by b f = sym (by_offer ∙ ap (λ o. replied r (admitted_of o)) t.onto ∙ ap (λ (c : Bool). replied r (refuse_if c NoPlan (accepted (Opened r.machine (take r.machine.levels r.table) joins)))) f)
 
-      pub admit_none : (judged r.machine.processors (Within o.totals) ≡ verdict.SomePlan → ⊥)
+      pub admit_none : is_err (judged r.machine.processors (Some o.totals)) ≡ true
           → record { answer = Err NoPlan; roster = r } ≡ reply_to r (Admit id cost period deadline)
       unfolding Tells refuse_if
-      admit_none n = go (judged r.machine.processors (Within o.totals)) refl
+      admit_none n = go (judged r.machine.processors (Some o.totals)) refl
         where
-          go : (v : Verdict) → judged r.machine.processors (Within o.totals) ≡ v → record { answer = Err NoPlan; roster = r } ≡ reply_to r (Admit id cost period deadline)
-          go verdict.SomePlan f = absurd (n f)
-          go verdict.NoPlan f =
-              refused_by (weighed_by true (passes_none r.machine t.with_one_more.machine_range joins (tells verdict.NoPlan f).1))
-          go verdict.TooLong f = let long = tells verdict.TooLong f in absurd (omega (arith, t.with_one_more.within_limit))
+          go : (v : Verdict) → judged r.machine.processors (Some o.totals) ≡ v → record { answer = Err NoPlan; roster = r } ≡ reply_to r (Admit id cost period deadline)
+          go (Ok u) f = let z : false ≡ true = sym (ap is_err f) ∙ n in cc
+          go (Err unplanned.NoPlan) f =
+              refused_by (weighed_by true (passes_none r.machine t.with_one_more.machine_range joins (tells (Err unplanned.NoPlan) f).1))
+          go (Err unplanned.TooLong) f = let long = tells (Err unplanned.TooLong) f in absurd (omega (arith, t.with_one_more.within_limit))
 
-      pub admit_some : judged r.machine.processors (Within o.totals) ≡ verdict.SomePlan
+      pub admit_some : is_err (judged r.machine.processors (Some o.totals)) ≡ false
           → record { answer = Ok (tt {0}); roster = record { machine = r.machine; table = r.table; held = r.held + 1; jobs = o.jobs } }
           ≡ reply_to r (Admit id cost period deadline)
       unfolding Tells refuse_if replied roster_of
-      admit_some e =
-          same_fields r.machine r.table _ (r.held + 1) (length joins) o.jobs (places_of joins) (entries_carried r entries places t.sound)
-          (sym t.with_one_more.size) t.places_are
-          ∙ weighed_by false (passes_plan r.machine t.with_one_more.machine_range joins (tells verdict.SomePlan e).1)
+      admit_some n = go (judged r.machine.processors (Some o.totals)) refl
+        where
+          go : (v : Verdict) → judged r.machine.processors (Some o.totals) ≡ v
+              → record { answer = Ok (tt {0}); roster = record { machine = r.machine; table = r.table; held = r.held + 1; jobs = o.jobs } }
+              ≡ reply_to r (Admit id cost period deadline)
+          go (Ok u) f =
+              same_fields r.machine r.table _ (r.held + 1) (length joins) o.jobs (places_of joins) (entries_carried r entries places t.sound)
+              (sym t.with_one_more.size) t.places_are
+              ∙ weighed_by false (passes_plan r.machine t.with_one_more.machine_range joins (tells (Ok u) f).1)
+          go (Err why) f = let z : true ≡ false = sym (ap is_err f) ∙ n in cc
 
 pub offers : Offers
 offers id cost period deadline = record {

@@ -3,7 +3,7 @@ use Prim.Native.Nat.{ℕ, suc, ◌-◌, ◌*◌, ◌≤◌, ◌<◌}
 use native.Mathlib.Omega.{arith}
 use mathlib.Core.Path.{◌≡◌, refl, sym, ap, ◌∙◌}
 use mathlib.Core.Bool.{Bool, true, false}
-use Rattle.std.specs.Prelude.{Result, Ok, Err}
+use Rattle.std.specs.Prelude.{Some, Result, Ok, Err}
 use mathlib.Core.List.{List, [], ◌∷◌, ◌++◌}
 use lib.ListN.{length, take, drop, replicate, take-append-drop}
 use lib.Seq.{length-take-le, take_all}
@@ -17,7 +17,7 @@ use Rattle.places.proofs.Results.{placing}
 use Rattle.power_tables.specs.Entries.{entries_of}
 use Rattle.power_tables.proofs.Results.{table_laws}
 use Rattle.workload.specs.declared.Totals.{Totals}
-use Rattle.workload.specs.declared.Load.TheVariants.{Within}
+use Rattle.workload.specs.declared.Share.{Share}
 use Rattle.workload.specs.Load.{totals, load_of, with_job}
 use Rattle.workload.proofs.Loads.{load_within}
 use Rattle.workload.proofs.Results.{workload}
@@ -29,7 +29,7 @@ use Rattle.refusals.specs.declared.Refusal.{Refusal}
 use Rattle.refusals.specs.declared.Refusal.TheVariants.{Damaged, NoMachine, MachineOpen, IdNotHeld}
 use Rattle.power_tables.specs.Tables.{is_table}
 use Rattle.planner.specs.Model.{Model, Closed, Opened, Call, OpenMachine, Retire, Outcome, refused, accepted, refuse_if, is_opened, on_machine, opened, retired, step}
-use Rattle.planner.specs.Roster.{empty_roster, model_of, roster_of, well_formed, condition_of, inspected, totals_found, replied, reply_to}
+use Rattle.planner.specs.Roster.{empty_roster, model_of, roster_of, well_formed, condition_of, inspected, totals_found, IsShareOf, replied, reply_to}
 use Rattle.planner.specs.Claims.{IsSound, Inspects}
 use Rattle.planner.proofs.Forms.{same_roster, rules_listed, form_sound, sound_form, form_rule, model_open, model_none}
 use Rattle.planner.proofs.Outcomes.{retire_in, retire_14, retire_0}
@@ -134,6 +134,13 @@ module _ (r : Roster) where
       go condition.Closed f = let z : Ok t ≡ Err NoMachine = e ∙ ap totals_found f in cc
       go (condition.Open u) f = let z : ◌≡◌ {A = Result Totals Refusal} (Ok t) (Ok u) = e ∙ ap totals_found f in cc
 
+  -- What is planned for on a roster is that of a sound one.
+  pub share_open : (share : Share) → IsShareOf r share → length r.table ≡ 32 → length r.jobs ≡ 64 → IsSound r × (share.totals ≡ totals (take r.held r.jobs))
+  share_open share s entries places = is_open r share.totals entries places (totalled share.totals s.totals)
+
+  pub share_count : (share : Share) → IsShareOf r share → length r.table ≡ 32 → length r.jobs ≡ 64 → length share.jobs.now ≡ r.held
+  share_count share s entries places = ap length s.jobs ∙ length-take-le r.held r.jobs (omega (arith, (share_open share s entries places).0.places))
+
   pub untotalled : (refusal : Refusal) (call : Call) → Err refusal ≡ totals_found (inspected r) → step Closed call ≡ refused NoMachine
       → record { answer = Err refusal; roster = r } ≡ reply_to r call
   unfolding totals_found
@@ -222,7 +229,7 @@ module _ (r : Roster) (entries : length r.table ≡ 32) (places : length r.jobs 
     module _ (new : Job) (fresh : has new.id jobs ≡ false) (free : r.held < 64) (in_range_law : JobInRange new) (t : Totals) (t-is : t ≡ totals jobs) where
       pub with_range : (0 < t.hyperperiod) × (t.hyperperiod ≤ hyperperiod_limit) × (t.work ≤ 63 * 65535 * t.hyperperiod)
       with_range =
-          workload.load_rule.range jobs s.rules.job_ranges (omega (arith, held_count)) t (load_within jobs s.rules.within_limit ∙ ap Within (sym t-is))
+          workload.load_rule.range jobs s.rules.job_ranges (omega (arith, held_count)) t (load_within jobs s.rules.within_limit ∙ ap Some (sym t-is))
 
       -- The load with the new job, wherever it stands.
       pub load_is : load_of (insert new jobs) ≡ with_job t new

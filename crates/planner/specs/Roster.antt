@@ -1,10 +1,11 @@
 -- The roster: what it carries of the model, when it is well formed, and what a call on it replies.
-use Rattle.std.specs.Prelude.{ℕ, List, Bool, true, false, not, ◌&&◌, ◌||◌, Result, Ok, Err, eqb, length, take, replicate}
+use Rattle.std.specs.Prelude.{ℕ, ◌≡◌, List, Bool, true, false, not, ◌&&◌, ◌||◌, Result, Ok, Err, eqb, length, take, replicate}
 use Rattle.gmf.specs.declared.Job.{Job}
 use Rattle.gmf.specs.Machine.{machine}
 use Rattle.places.specs.Places.{no_job, places_of, has, before}
 use Rattle.power_tables.specs.Entries.{entries_of}
 use Rattle.workload.specs.declared.Totals.{Totals}
+use Rattle.workload.specs.declared.Share.{Share}
 use Rattle.workload.specs.Load.{totals}
 use Rattle.planner.specs.declared.Roster.{Roster}
 use Rattle.planner.specs.declared.Condition.{Condition}
@@ -64,6 +65,12 @@ unfoldable pub totals_found : Condition → Result Totals Refusal
 totals_found condition.Damaged = Err Damaged
 totals_found condition.Closed = Err NoMachine
 totals_found (condition.Open t) = Ok t
+
+-- What is planned for on such a roster: its machine and the jobs held, with their totals.
+pub record IsShareOf (r : Roster) (share : Share) : Type 0 where
+  pub totals : Ok share.totals ≡ totals_found (inspected r)
+  pub machine : share.machine ≡ r.machine
+  pub jobs : share.jobs.now ≡ take r.held r.jobs
 
 -- Where the job with an id stands among jobs by rising id, or else where it would.
 unfoldable pub found : ℕ → List Job → Result ℕ ℕ

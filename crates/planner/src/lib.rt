@@ -2,10 +2,10 @@
 // specs/.
 #![tactic(auto)]
 
-ghost use Rattle.std.specs.Prelude.{◌≡◌, true};
+ghost use Rattle.std.specs.Prelude.{◌≡◌, true, MatchResult};
 ghost use Rattle.places.specs.Places.{listed};
 ghost use Rattle.planner.specs.Model.{OpenMachine, ReplaceTable, Admit, Retire};
-ghost use Rattle.planner.specs.Roster.{empty_roster, inspected, totals_found, found, reply_to};
+ghost use Rattle.planner.specs.Roster.{empty_roster, inspected, totals_found, IsShareOf, found, reply_to};
 ghost use Rattle.planner.specs.Offers.{job_in, offering_to};
 
 use gmf::{Job, Machine};
@@ -15,7 +15,7 @@ use power_tables::{accepts, entries_of};
 use ranges::{job_fits, one_to, speeds_fit};
 use refusals::Refusal;
 use roster_shape::{in_shape, is_zero};
-use workload::{Load, Totals, Verdict, load_of};
+use workload::{Share, Totals, judge, load_of};
 
 // The places of a roster.
 const PLACES: usize = 64;
@@ -111,28 +111,27 @@ impl Roster {
         if !in_shape(machine, table, held, jobs) {
             return Condition::Damaged;
         }
-        let load = load_of(jobs, held as usize);
-        match load {
-            Load::Within(totals) => {
-                let verdict = load.judge(machine.processors);
-                match verdict {
-                    Verdict::SomePlan => Condition::Open(totals),
-                    Verdict::NoPlan => Condition::Damaged,
-                    Verdict::TooLong => Condition::Damaged,
-                }
-            }
-            Load::TooLong => Condition::Damaged,
+        let Some(totals) = load_of(&self.jobs[..self.held as usize]) else {
+            return Condition::Damaged;
+        };
+        if judge(Some(totals), self.machine.processors).is_err() {
+            return Condition::Damaged;
         }
+        Condition::Open(totals)
     }
 
-    // What a call asks for that needs a machine: the totals of the jobs, or refusal 7 or 11.
-    pub fn totals(&self) -> Result<Totals, Refusal>
-        ensures { result ≡ totals_found (inspected self.now) }
+    // What a call asks for that needs a machine: the machine, its jobs and their totals, or refusal 7 or 11.
+    pub fn share(&self) -> Result<Share<'_>, Refusal>
+        ensures { MatchResult result (IsShareOf self.now) (λ refusal. Err refusal ≡ totals_found (inspected self.now)) }
     {
         match self.inspect() {
             Condition::Damaged => Err(Refusal::Damaged),
             Condition::Closed => Err(Refusal::NoMachine),
-            Condition::Open(totals) => Ok(totals),
+            Condition::Open(totals) => Ok(Share {
+                machine: self.machine,
+                jobs: &self.jobs[..self.held as usize],
+                totals,
+            }),
         }
     }
 
@@ -187,7 +186,7 @@ impl Roster {
     fn replace(&mut self, values: &[u32]) -> Result<(), Refusal>
         ensures { record { answer = result; roster = self.new } ≡ reply_to self.old (ReplaceTable values.now) }
     {
-        self.totals()?;
+        self.share()?;
         if !accepts(self.machine, values) {
             return Err(Refusal::PowerTable);
         }
@@ -212,10 +211,9 @@ impl Roster {
         ensures { record { answer = result; roster = self.new } ≡ reply_to self.old (Admit id cost period deadline) }
     {
         let offer = self.offer(id, cost, period, deadline)?;
-        let verdict = Load::Within(offer.totals).judge(self.machine.processors);
-        let Verdict::SomePlan = verdict else {
+        if judge(Some(offer.totals), self.machine.processors).is_err() {
             return Err(Refusal::NoPlan);
-        };
+        }
         let jobs = offer.jobs;
         self.held += 1;
         self.jobs = jobs;
@@ -226,21 +224,21 @@ impl Roster {
     pub fn offer(&self, id: u64, cost: u64, period: u64, deadline: u64) -> Result<Offer, Refusal>
         ensures { result ≡ offering_to self.now id cost period deadline }
     {
-        let totals = self.totals()?;
+        let share = self.share()?;
         let job = job_of(id, cost, period, deadline)?;
-        let held = self.held as usize;
-        let Err(at) = find(&self.jobs[..held], job.id) else {
+        let Err(at) = find(share.jobs, job.id) else {
             return Err(Refusal::IdHeld);
         };
+        let held = share.jobs.len();
         if PLACES <= held {
             return Err(Refusal::PlacesFull);
         }
         // the load with it comes from the totals, so that the jobs are not passed again
-        let Load::Within(more) = totals.with(job) else {
+        let Some(totals) = share.totals.with(job) else {
             return Err(Refusal::HyperperiodTooLong);
         };
         let jobs = put_in(self.jobs, held, at, job);
-        Ok(Offer { jobs, totals: more })
+        Ok(Offer { jobs, totals })
     }
 
     // Retires a job.
@@ -258,15 +256,14 @@ impl Roster {
     fn leave(&mut self, id: u64) -> Result<(), Refusal>
         ensures { record { answer = result; roster = self.new } ≡ reply_to self.old (Retire id) }
     {
-        self.totals()?;
+        let share = self.share()?;
         if !one_to(65535, id) {
             return Err(Refusal::JobNumbers);
         }
-        let held = self.held as usize;
-        let Ok(at) = find(&self.jobs[..held], id as u16) else {
+        let Ok(at) = find(share.jobs, id as u16) else {
             return Err(Refusal::IdNotHeld);
         };
-        let jobs = take_out(self.jobs, held, at);
+        let jobs = take_out(self.jobs, self.held as usize, at);
         self.jobs = jobs;
         self.held -= 1;
         Ok(())

@@ -1,6 +1,7 @@
 -- `planner::Roster::enter` meets its contract.
 use native.Mathlib.Omega.{arith}
-use mathlib.Core.Path.{◌≡◌, sym, ◌∙◌}
+use mathlib.Core.Path.{◌≡◌, sym, ap, ◌∙◌}
+use Rattle.std.specs.Prelude.{is_err}
 use borrow.Author.Rules.{rules}
 use lib.ListN.{length}
 use Rattle.std.proofs.lemmas.Result.{err_from_is_err_and}
@@ -12,11 +13,11 @@ returns-in_err-offer c =
     let p = err_from_is_err_and c.from_residual.result c.from_residual.ensures.1 in
     rw (p.1, p.2) (admit_refused _ _ _ _ _ _ c.in_err-offer.ensures)
 
-pub returns-in_default : goal.returns-in_default
-returns-in_default c =
+pub returns-then-is_err : goal.returns-then-is_err
+returns-then-is_err c =
     let entries : length c.args.self.now.table ≡ 32 = search rules in
     let places : length c.args.self.now.jobs ≡ 64 = search rules in
-    admit_none _ _ _ _ _ entries places _ (taken _ _ _ _ _ entries places _ c.in_ok-offer.ensures) (λ e. c.in_default.not-SomePlan (c.judge-verdict.ensures ∙ e))
+    admit_none _ _ _ _ _ entries places _ (taken _ _ _ _ _ entries places _ c.in_ok-offer.ensures) (ap is_err (sym c.judge.ensures) ∙ sym c.is_err.ensures.value ∙ c.if-is_err.true)
 
 pub overflow_add-self : goal.overflow_add-self
 overflow_add-self c =
@@ -29,4 +30,4 @@ pub returns : goal.returns
 returns c =
     let entries : length c.args.self.now.table ≡ 32 = search rules in
     let places : length c.args.self.now.jobs ≡ 64 = search rules in
-    admit_some _ _ _ _ _ entries places _ (taken _ _ _ _ _ entries places _ c.in_ok-offer.ensures) (sym c.judge-verdict.ensures ∙ c.in-SomePlan.is)
+    admit_some _ _ _ _ _ entries places _ (taken _ _ _ _ _ entries places _ c.in_ok-offer.ensures) (ap is_err (sym c.judge.ensures) ∙ sym c.is_err.ensures.value ∙ c.if-is_err.false)

@@ -1,58 +1,54 @@
 -- `planner::Roster::offer` meets its contract.
-use mathlib.Core.Path.{◌≡◌, sym, subst}
+use native.Mathlib.Omega.{arith}
+use mathlib.Core.Path.{◌≡◌, sym, ap, subst, ◌∙◌}
+use Rattle.places.specs.Places.{listed}
 use borrow.Author.Rules.{rules}
 use lib.ListN.{length}
 use Rattle.std.proofs.lemmas.Result.{err_from_is_err_and}
 use Rattle.gmf.specs.Jobs.{JobInRange}
 use Rattle.ranges.proofs.Results.{ranging}
 use Rattle.planner.proofs.Looking.{found_there, found_none}
-use Rattle.planner.proofs.Replies.{is_open, totalled, held_listed, with_range}
+use Rattle.planner.proofs.Replies.{share_open, share_count, held_listed, with_range}
 use Rattle.planner.proofs.Offers.{job_there, no_job_there, offer_untotalled, offer_4, offer_held, offer_full, offer_long, offer_more}
 use Rattle.planner.proofs.Roster.offer.Goals as goal
 
-pub returns-in_err-totals : goal.returns-in_err-totals
-returns-in_err-totals c =
+pub returns-in_err-share : goal.returns-in_err-share
+returns-in_err-share c =
     let p = err_from_is_err_and c.from_residual.result c.from_residual.ensures.1 in
-    rw (p.1, p.2) (offer_untotalled _ _ _ _ _ _ c.in_err-totals.ensures)
+    rw (p.1, p.2) (offer_untotalled _ _ _ _ _ _ c.in_err-share.ensures)
 
 pub returns-in_err-job : goal.returns-in_err-job
 returns-in_err-job c =
     let entries : length c.args.self.now.table ≡ 32 = search rules in
     let places : length c.args.self.now.jobs ≡ 64 = search rules in
-    let open_at = is_open _ _ entries places (totalled _ _ c.in_ok-totals.ensures) in
+    let open_at = share_open _ _ c.in_ok-share.ensures entries places in
     let p = err_from_is_err_and c.from_residual-in_err-job.result c.from_residual-in_err-job.ensures.1 in
     let none = no_job_there _ _ _ _ _ c.in_err-job.ensures in
     rw (p.1, p.2, none.1) (offer_4 _ entries places open_at.0 _ _ _ _ none.0)
-
-pub shared_ref_as_front-find : goal.shared_ref_as_front-find
-shared_ref_as_front-find c =
-    let entries : length c.args.self.now.table ≡ 32 = search rules in
-    let places : length c.args.self.now.jobs ≡ 64 = search rules in
-    let open_at = is_open _ _ entries places (totalled _ _ c.in_ok-totals.ensures) in
-    open_at.0.places
 
 pub find-requires : goal.find-requires
 find-requires c =
     let entries : length c.args.self.now.table ≡ 32 = search rules in
     let places : length c.args.self.now.jobs ≡ 64 = search rules in
-    let open_at = is_open _ _ entries places (totalled _ _ c.in_ok-totals.ensures) in
-    held_listed _ entries places open_at.0
+    let open_at = share_open _ _ c.in_ok-share.ensures entries places in
+    ap listed c.in_ok-share.ensures.jobs ∙ held_listed _ entries places open_at.0
 
 pub returns-in_default : goal.returns-in_default
 returns-in_default c =
     let entries : length c.args.self.now.table ≡ 32 = search rules in
     let places : length c.args.self.now.jobs ≡ 64 = search rules in
-    let open_at = is_open _ _ entries places (totalled _ _ c.in_ok-totals.ensures) in
+    let open_at = share_open _ _ c.in_ok-share.ensures entries places in
     let new = job_there _ _ _ _ _ c.in_ok-job.ensures in
-    offer_held _ entries places open_at.0 _ _ _ _ new.0 _ new.1 (found_there _ _ _ c.in_default.ensures).0
+    offer_held _ entries places open_at.0 _ _ _ _ new.0 _ new.1 (found_there _ _ c.in_ok-share.ensures.jobs _ _ c.in_default.ensures).0
 
 pub returns-then-held-ge-PLACES : goal.returns-then-held-ge-PLACES
 returns-then-held-ge-PLACES c =
     let entries : length c.args.self.now.table ≡ 32 = search rules in
     let places : length c.args.self.now.jobs ≡ 64 = search rules in
-    let open_at = is_open _ _ entries places (totalled _ _ c.in_ok-totals.ensures) in
+    let held = share_count c.args.self.now c.in_ok-share.share c.in_ok-share.ensures entries places in
+    let open_at = share_open _ _ c.in_ok-share.ensures entries places in
     let new = job_there _ _ _ _ _ c.in_ok-job.ensures in
-    offer_full _ entries places open_at.0 _ _ _ _ new.0 _ new.1 (found_none _ _ _ c.in-Err.ensures).0 c.if-held-ge-PLACES.true
+    offer_full _ entries places open_at.0 _ _ _ _ new.0 _ new.1 (found_none _ _ c.in_ok-share.ensures.jobs _ _ c.in-Err.ensures).0 (omega (arith, held, c.if-held-ge-PLACES.true))
 
 pub with-requires-clause-job_in_range : goal.with-requires-clause-job_in_range
 with-requires-clause-job_in_range c =
@@ -63,26 +59,29 @@ pub with-requires-clause-hyperperiod_nonzero : goal.with-requires-clause-hyperpe
 with-requires-clause-hyperperiod_nonzero c =
     let entries : length c.args.self.now.table ≡ 32 = search rules in
     let places : length c.args.self.now.jobs ≡ 64 = search rules in
-    let open_at = is_open _ _ entries places (totalled _ _ c.in_ok-totals.ensures) in
+    let held = share_count c.args.self.now c.in_ok-share.share c.in_ok-share.ensures entries places in
+    let open_at = share_open _ _ c.in_ok-share.ensures entries places in
     let new = job_there _ _ _ _ _ c.in_ok-job.ensures in
-    with_range _ entries places open_at.0 _ (found_none _ _ _ c.in-Err.ensures).0 c.if-held-ge-PLACES.false
+    with_range _ entries places open_at.0 _ (found_none _ _ c.in_ok-share.ensures.jobs _ _ c.in-Err.ensures).0 (omega (arith, held, c.if-held-ge-PLACES.false))
     (subst JobInRange (sym new.1) ((ranging.rule.one_job _ _ _ _).0 new.0)) _ open_at.1
 
 pub returns-in_default-with : goal.returns-in_default-with
 returns-in_default-with c =
     let entries : length c.args.self.now.table ≡ 32 = search rules in
     let places : length c.args.self.now.jobs ≡ 64 = search rules in
-    let open_at = is_open _ _ entries places (totalled _ _ c.in_ok-totals.ensures) in
+    let held = share_count c.args.self.now c.in_ok-share.share c.in_ok-share.ensures entries places in
+    let open_at = share_open _ _ c.in_ok-share.ensures entries places in
     let new = job_there _ _ _ _ _ c.in_ok-job.ensures in
-    offer_long _ entries places open_at.0 _ _ _ _ new.0 _ new.1 (found_none _ _ _ c.in-Err.ensures).0 c.if-held-ge-PLACES.false _ open_at.1 _
+    offer_long _ entries places open_at.0 _ _ _ _ new.0 _ new.1 (found_none _ _ c.in_ok-share.ensures.jobs _ _ c.in-Err.ensures).0 (omega (arith, held, c.if-held-ge-PLACES.false)) _ open_at.1 _
     c.with.ensures c.in_default-with.is
 
 pub returns : goal.returns
 returns c =
     let entries : length c.args.self.now.table ≡ 32 = search rules in
     let places : length c.args.self.now.jobs ≡ 64 = search rules in
-    let open_at = is_open _ _ entries places (totalled _ _ c.in_ok-totals.ensures) in
+    let held = share_count c.args.self.now c.in_ok-share.share c.in_ok-share.ensures entries places in
+    let open_at = share_open _ _ c.in_ok-share.ensures entries places in
     let new = job_there _ _ _ _ _ c.in_ok-job.ensures in
-    let none = found_none _ _ _ c.in-Err.ensures in
-    offer_more _ entries places open_at.0 _ _ _ _ new.0 _ new.1 none.0 c.if-held-ge-PLACES.false _ open_at.1 _ c.with.ensures _ c.in-Within.is _ _ none.1
+    let none = found_none _ _ c.in_ok-share.ensures.jobs _ _ c.in-Err.ensures in
+    offer_more _ entries places open_at.0 _ _ _ _ new.0 _ new.1 none.0 (omega (arith, held, c.if-held-ge-PLACES.false)) _ open_at.1 _ c.with.ensures _ c.in-Within.is _ _ none.1
     c.put_in-jobs.ensures
