@@ -19,15 +19,11 @@ pub fn default_table(machine: Machine) -> [u32; 32]
     ensures { result ≡ entries_of (default_table machine) }
 {
     let cubes = cube_table();
-    let levels = machine.levels as usize;
-    let step = machine.step as usize;
     let mut table = [0u32; 32];
     let mut speed = machine.lowest as usize;
-    let mut j: usize = 0;
-    while j < levels {
-        table[j] = cubes[speed];
-        speed += step;
-        j += 1;
+    for entry in &mut table[..machine.levels as usize] {
+        *entry = cubes[speed];
+        speed += machine.step as usize;
     }
     table
 }

@@ -1,15 +1,8 @@
 -- `number::gcd` meets its contract: a step keeps the gcd of the two numbers.
-use mathlib.Core.Path.{refl, sym, ap, ◌∙◌}
-use native.Mathlib.Nat.{mod-lt, pos_of_ne-zero}
+use mathlib.Core.Path.{sym, ap, ◌∙◌}
 use Rattle.number.specs.Divisors.{gcd}
 use Rattle.number.proofs.Laws.{gcd_zero_right, gcd_step}
 use Rattle.number.proofs.gcd.Goals as goal
-
-pub loop-y-init : goal.loop-y-init
-loop-y-init c = refl
-
-pub loop-y-smaller : goal.loop-y-smaller
-loop-y-smaller c = mod-lt _ (pos_of_ne-zero c.loop-y-test.true)
 
 pub loop-y-preserved : goal.loop-y-preserved
 loop-y-preserved c = gcd_step _ _ ∙ c.loop-y.invariant

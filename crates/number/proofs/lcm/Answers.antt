@@ -13,9 +13,6 @@ returns-then-a-eq0 c = sym (rw c.if-a-eq0.true (lcm_zero_left c.args.b))
 pub nonzero_div-result : goal.nonzero_div-result
 nonzero_div-result c = rw c.gcd.ensures (gcd_pos _ _ (pos_of_ne-zero c.if-a-eq0.false))
 
-pub overflow_cast-result : goal.overflow_cast-result
-overflow_cast-result c = omega (arith, div-le_self c.args.a c.gcd.result)
-
 pub overflow_mul-result : goal.overflow_mul-result
 overflow_mul-result c =
     let a = c.args.a in

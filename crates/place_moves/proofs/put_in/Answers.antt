@@ -1,23 +1,7 @@
--- `place_moves::put_in` meets its contract. What the loop keeps is `Carrying`.
+-- `place_moves::put_in` meets its contract.
 use native.Mathlib.Omega.{arith}
-use borrow.Author.Rules.{rules}
-use Rattle.place_moves.proofs.Turns.{carrying_starts, carrying_ends, carrying_turns}
+use Rattle.place_moves.proofs.Turns.{put_at}
 use Rattle.place_moves.proofs.put_in.Goals as goal
 
-pub loop-i-init : goal.loop-i-init
-loop-i-init c = carrying_starts (search rules) (omega arith)
-
-pub loop-i-preserved : goal.loop-i-preserved
-loop-i-preserved c =
-    carrying_turns c.loop-i.invariant _ _ _
-    (omega arith)
-    (omega arith)
-    (omega arith)
-    (omega arith)
-    (omega arith)
-    (omega arith)
-    (omega arith)
-    (omega arith)
-
-pub returns : goal.returns
-returns c = carrying_ends c.loop-i.invariant (omega arith)
+pub returns-then-at-end : goal.returns-then-at-end
+returns-then-at-end c = put_at c.args.places.now c.args.at (omega arith) _ c.args.job c.copy_within.ensures.after
