@@ -5,10 +5,12 @@ use mathlib.Core.Bool.{Bool, true, false, ◌&&◌}
 use mathlib.Core.List.{List}
 use Rattle.gmf.specs.declared.Machine.{Machine}
 use Rattle.gmf.specs.Machine.{InRange, machine}
+use Rattle.std.proofs.Common.{Result, Ok, Err}
 use Rattle.ranges.specs.Ranges.{one_to, speeds_fit}
 use Rattle.ranges.proofs.Results.{ranging}
 use Rattle.clocks.specs.declared.Clock.{Clock}
-use Rattle.clocks.specs.declared.Clock.TheVariants.{NoList, Uneven, Even}
+use Rattle.clocks.specs.declared.ListError.{ListError}
+use Rattle.clocks.specs.declared.ListError.TheVariants.{NoList, Uneven}
 use Rattle.clocks.specs.Clocks.{clock_of}
 use Rattle.refusals.specs.declared.Refusal.{Refusal}
 use Rattle.refusals.specs.declared.Refusal.TheVariants.{Processors, Speeds, FrequencyList, UnevenGaps}
@@ -92,32 +94,32 @@ module _ (m : ℕ) (list : List ℕ) (given : Found) where
       → given ≡ found_in (import_reply m list)
   refused_processors refusal g e n = as_refused refusal Processors g e (by_processors m list n)
 
-  module _ (fits : one_to 32 m ≡ true) (clock : Clock) (is : clock ≡ clock_of list) where
-    found : (c : Clock) → clock ≡ c → imported m list ≡ by_clock m c
+  module _ (fits : one_to 32 m ≡ true) (clock : Result Clock ListError) (is : clock ≡ clock_of list) where
+    found : (c : Result Clock ListError) → clock ≡ c → imported m list ≡ by_clock m c
     found c e = by_clock_law m list fits ∙ ap (by_clock m) (sym is ∙ e)
 
-    pub refused_list : (refusal : Refusal) → given ≡ found_in (replied empty_roster (refused refusal)) → refusal ≡ FrequencyList → clock ≡ NoList
+    pub refused_list : (refusal : Refusal) → given ≡ found_in (replied empty_roster (refused refusal)) → refusal ≡ FrequencyList → clock ≡ Err NoList
         → given ≡ found_in (import_reply m list)
     unfolding by_clock
-    refused_list refusal g e c = as_refused refusal FrequencyList g e (found NoList c)
+    refused_list refusal g e c = as_refused refusal FrequencyList g e (found (Err NoList) c)
 
-    pub refused_gaps : (refusal : Refusal) → given ≡ found_in (replied empty_roster (refused refusal)) → refusal ≡ UnevenGaps → clock ≡ Uneven
+    pub refused_gaps : (refusal : Refusal) → given ≡ found_in (replied empty_roster (refused refusal)) → refusal ≡ UnevenGaps → clock ≡ Err Uneven
         → given ≡ found_in (import_reply m list)
     unfolding by_clock
-    refused_gaps refusal g e c = as_refused refusal UnevenGaps g e (found Uneven c)
+    refused_gaps refusal g e c = as_refused refusal UnevenGaps g e (found (Err Uneven) c)
 
-    module _ (L b d : ℕ) (c : clock ≡ Even L b d) (speeds : Bool) (s : speeds ≡ speeds_fit L b d) where
-      called : imported m list ≡ step Closed (OpenMachine m L b d)
+    module _ (c : Clock) (e : clock ≡ Ok c) (speeds : Bool) (s : speeds ≡ speeds_fit c.levels c.lowest c.step) where
+      called : imported m list ≡ step Closed (OpenMachine m c.levels c.lowest c.step)
       unfolding by_clock
-      called = found (Even L b d) c
+      called = found (Ok c) e
 
       pub refused_speeds : speeds ≡ false → (refusal : Refusal) → given ≡ found_in (replied empty_roster (refused refusal)) → refusal ≡ Speeds
           → given ≡ found_in (import_reply m list)
-      refused_speeds f refusal g e = as_refused refusal Speeds g e (called ∙ made_refused m L b d fits (sym s ∙ f))
+      refused_speeds f refusal g n = as_refused refusal Speeds g n (called ∙ made_refused m c.levels c.lowest c.step fits (sym s ∙ f))
 
-      pub is_found : speeds ≡ true → given.answer ≡ Accepted → given.machine ≡ machine m L b d → given ≡ found_in (import_reply m list)
+      pub is_found : speeds ≡ true → given.answer ≡ Accepted → given.machine ≡ machine m c.levels c.lowest c.step → given ≡ found_in (import_reply m list)
       unfolding import_reply
       is_found t a w =
-          same_found given (machine m L b d) a w
-          ∙ machine_found (machine m L b d)
-          ∙ ap (λ (x : Outcome). found_in (replied empty_roster x)) (sym (called ∙ made_opened m L b d fits (sym s ∙ t)))
+          same_found given (machine m c.levels c.lowest c.step) a w
+          ∙ machine_found (machine m c.levels c.lowest c.step)
+          ∙ ap (λ (x : Outcome). found_in (replied empty_roster x)) (sym (called ∙ made_opened m c.levels c.lowest c.step fits (sym s ∙ t)))

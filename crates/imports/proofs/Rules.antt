@@ -10,6 +10,7 @@ use borrow.Author.Tests.{le-leb, lt-leb}
 use lib.ListN.{length}
 use Rattle.gmf.specs.declared.Machine.{Machine}
 use Rattle.gmf.specs.Machine.{InRange, machine}
+use Rattle.std.proofs.Common.{Result, Ok, Err}
 use Rattle.ranges.specs.Ranges.{one_to, speeds_fit}
 use Rattle.ranges.proofs.Results.{ranging}
 use Rattle.frequencies.specs.Lists.{is_list}
@@ -17,7 +18,8 @@ use Rattle.frequencies.specs.Grammar.{IsFrequencyList}
 use Rattle.frequencies.proofs.Members.{and-false, list_parts}
 use Rattle.frequencies.proofs.Results.{listing}
 use Rattle.clocks.specs.declared.Clock.{Clock}
-use Rattle.clocks.specs.declared.Clock.TheVariants.{NoList, Uneven, Even}
+use Rattle.clocks.specs.declared.ListError.{ListError}
+use Rattle.clocks.specs.declared.ListError.TheVariants.{NoList, Uneven}
 use Rattle.clocks.specs.Clocks.{speeds_of, lowest_of, step_of, clock_of}
 use Rattle.clocks.specs.Claims.{OneGap}
 use Rattle.clocks.proofs.Results.{clocking}
@@ -118,7 +120,7 @@ module _ (m : ℕ) (list : List ℕ) where
       go true e = absurd (n ((ranging.rule.number 32 m).0 e))
       go false e = e
 
-  at_clock : Fits m → (clock : Clock) → clock_of list ≡ clock → imported m list ≡ by_clock m clock
+  at_clock : Fits m → (clock : Result Clock ListError) → clock_of list ≡ clock → imported m list ≡ by_clock m clock
   at_clock f clock e = by_clock_law m list (fits f) ∙ ap (by_clock m) e
 
   as_call : Fits m → (numbers : List ℕ) → IsFrequencyList list numbers → OneGap numbers → imported m list ≡ step Closed (machine_call m numbers)
@@ -148,8 +150,8 @@ module _ (m : ℕ) (list : List ℕ) where
   unfolding by_clock refusal_number
   order_rule = record {
     by_1 = λ n. ap outcome_number (by_processors m list (misfits n)) ∙ refused_number Processors;
-    by_18 = λ f never. ap outcome_number (at_clock f NoList ((clocking.clock_rule list).no_list.1 never)) ∙ refused_number FrequencyList;
-    by_19 = λ f numbers l never. ap outcome_number (at_clock f Uneven (((clocking.clock_rule list).uneven numbers l).1 never)) ∙ refused_number UnevenGaps;
+    by_18 = λ f never. ap outcome_number (at_clock f (Err NoList) ((clocking.clock_rule list).no_list.1 never)) ∙ refused_number FrequencyList;
+    by_19 = λ f numbers l never. ap outcome_number (at_clock f (Err Uneven) (((clocking.clock_rule list).uneven numbers l).1 never)) ∙ refused_number UnevenGaps;
     by_2 = too_fast;
     as_call = as_call;
     roster_as_call = λ f numbers l gap. unfold import_reply in ap (replied empty_roster) (as_call f numbers l gap) ∙ sym (on_empty (machine_call m numbers));
@@ -174,23 +176,23 @@ stays (refused refusal) n = refl
 stays (accepted model) n = absurd (n refl)
 
 -- By the three answers of a clock.
-clock_kept : (m : ℕ) (clock : Clock) → Kept (after Closed (by_clock m clock))
+clock_kept : (m : ℕ) (clock : Result Clock ListError) → Kept (after Closed (by_clock m clock))
 unfolding by_clock after
-clock_kept m NoList = tt
-clock_kept m Uneven = tt
-clock_kept m (Even L b d) = (planner.one_call Closed tt).kept (OpenMachine m L b d)
+clock_kept m (Err NoList) = tt
+clock_kept m (Err Uneven) = tt
+clock_kept m (Ok clock) = (planner.one_call Closed tt).kept (OpenMachine m clock.levels clock.lowest clock.step)
 
-clock_not_7 : (m : ℕ) (clock : Clock) → outcome_number (by_clock m clock) ≡ 7 → ⊥
+clock_not_7 : (m : ℕ) (clock : Result Clock ListError) → outcome_number (by_clock m clock) ≡ 7 → ⊥
 unfolding by_clock outcome_number refusal_number
-clock_not_7 m NoList e = omega arith
-clock_not_7 m Uneven e = omega arith
-clock_not_7 m (Even L b d) e = (planner.one_call Closed tt).never_7 (OpenMachine m L b d) e
+clock_not_7 m (Err NoList) e = omega arith
+clock_not_7 m (Err Uneven) e = omega arith
+clock_not_7 m (Ok clock) e = (planner.one_call Closed tt).never_7 (OpenMachine m clock.levels clock.lowest clock.step) e
 
-clock_not_12 : (m : ℕ) (clock : Clock) → outcome_number (by_clock m clock) ≡ 12 → ⊥
+clock_not_12 : (m : ℕ) (clock : Result Clock ListError) → outcome_number (by_clock m clock) ≡ 12 → ⊥
 unfolding by_clock outcome_number refusal_number
-clock_not_12 m NoList e = omega arith
-clock_not_12 m Uneven e = omega arith
-clock_not_12 m (Even L b d) e = not_open m L b d e
+clock_not_12 m (Err NoList) e = omega arith
+clock_not_12 m (Err Uneven) e = omega arith
+clock_not_12 m (Ok clock) e = not_open m clock.levels clock.lowest clock.step e
 
 -- ---- An accepted import
 
@@ -211,11 +213,11 @@ module _ (m : ℕ) (fits : one_to 32 m ≡ true) where
       go true f = record { levels = L; lowest = b; step_up = d; call = refl; processors = fits; speeds = f }
       go false f = absurd (omega (arith, not_fitting m L b d fits f, e))
 
-  clock_accepts : (clock : Clock) → outcome_number (by_clock m clock) ≡ 0 → Accepts m (by_clock m clock)
+  clock_accepts : (clock : Result Clock ListError) → outcome_number (by_clock m clock) ≡ 0 → Accepts m (by_clock m clock)
   unfolding by_clock outcome_number refusal_number
-  clock_accepts NoList e = absurd (omega arith)
-  clock_accepts Uneven e = absurd (omega arith)
-  clock_accepts (Even L b d) e = made_accepts L b d e
+  clock_accepts (Err NoList) e = absurd (omega arith)
+  clock_accepts (Err Uneven) e = absurd (omega arith)
+  clock_accepts (Ok clock) e = made_accepts clock.levels clock.lowest clock.step e
 
 not_one : (n : ℕ) → (1 ≡ n → ⊥) → outcome_number (refused Processors) ≡ n → ⊥
 unfolding outcome_number refusal_number

@@ -1,8 +1,9 @@
 -- An import: "Import it, with a processor count given, as a fresh roster on a new machine."
-use Rattle.std.specs.Prelude.{ℕ, not, List}
+use Rattle.std.specs.Prelude.{ℕ, not, Result, Ok, Err, List}
 use Rattle.ranges.specs.Ranges.{one_to}
 use Rattle.clocks.specs.declared.Clock.{Clock}
-use Rattle.clocks.specs.declared.Clock.TheVariants.{NoList, Uneven, Even}
+use Rattle.clocks.specs.declared.ListError.{ListError}
+use Rattle.clocks.specs.declared.ListError.TheVariants.{NoList, Uneven}
 use Rattle.clocks.specs.Clocks.{clock_of}
 use Rattle.refusals.specs.declared.Refusal.TheVariants.{Processors, FrequencyList, UnevenGaps}
 use Rattle.planner.specs.declared.Reply.{Reply}
@@ -12,10 +13,10 @@ use Rattle.imports.specs.declared.Found.{Found}
 
 -- "It refuses by 18 anything but … numbers …, and by 19 uneven gaps"; otherwise "the book reads it as a machine call with that processor count and
 -- those speeds". The call is made on the empty model, so that it never meets 12.
-unfoldable pub by_clock : ℕ → Clock → Outcome
-by_clock m NoList = refused FrequencyList
-by_clock m Uneven = refused UnevenGaps
-by_clock m (Even L b d) = step Closed (OpenMachine m L b d)
+unfoldable pub by_clock : ℕ → Result Clock ListError → Outcome
+by_clock m (Err NoList) = refused FrequencyList
+by_clock m (Err Uneven) = refused UnevenGaps
+by_clock m (Ok clock) = step Closed (OpenMachine m clock.levels clock.lowest clock.step)
 
 -- "… the order is 1, 18, 19, 2."
 unfoldable pub imported : ℕ → List ℕ → Outcome

@@ -6,7 +6,7 @@ ghost use Rattle.planner.specs.Model.{refused};
 ghost use Rattle.planner.specs.Roster.{empty_roster, replied};
 ghost use Rattle.imports.specs.Imports.{import_reply, found_in};
 
-use clocks::{Clock, read_clock};
+use clocks::{Clock, ListError, read_clock};
 use gmf::Machine;
 use planner::{Reply, Roster};
 use ranges::{one_to, speeds_fit};
@@ -41,28 +41,26 @@ pub fn find_machine(processors: u64, list: &[u8]) -> Found
     if !one_to(32, processors) {
         return none_found(Refusal::Processors);
     }
-    let clock = read_clock(list);
-    match clock {
-        Clock::NoList => none_found(Refusal::FrequencyList),
-        Clock::Uneven => none_found(Refusal::UnevenGaps),
-        Clock::Even {
-            levels,
-            lowest,
-            step,
-        } => {
-            if !speeds_fit(levels as u64, lowest as u64, step as u64) {
-                return none_found(Refusal::Speeds);
-            }
-            Found {
-                answer: Answer::Accepted,
-                machine: Machine {
-                    processors: processors as u8,
-                    levels: levels as u8,
-                    lowest: lowest as u16,
-                    step: step as u8,
-                },
-            }
-        }
+    let Clock {
+        levels,
+        lowest,
+        step,
+    } = match read_clock(list) {
+        Ok(clock) => clock,
+        Err(ListError::NoList) => return none_found(Refusal::FrequencyList),
+        Err(ListError::Uneven) => return none_found(Refusal::UnevenGaps),
+    };
+    if !speeds_fit(levels as u64, u64::from(lowest), u64::from(step)) {
+        return none_found(Refusal::Speeds);
+    }
+    Found {
+        answer: Answer::Accepted,
+        machine: Machine {
+            processors: processors as u8,
+            levels: levels as u8,
+            lowest: lowest as u16,
+            step: step as u8,
+        },
     }
 }
 
