@@ -1,5 +1,5 @@
 -- The plan call (01, frames 05 and 81, and "Plan" in "The list of calls and its book"): what it replies, and what it writes on a page.
-use Rattle.std.specs.Prelude.{ℕ, true, false, List, eqb, length}
+use Rattle.std.specs.Prelude.{ℕ, true, false, List, Result, Ok, Err, eqb, length}
 use Rattle.gmf.specs.declared.Machine.{Machine}
 use Rattle.gmf.specs.declared.Job.{Job}
 use Rattle.gmf.specs.Jobs.{hyperperiod}
@@ -13,8 +13,7 @@ use Rattle.refusals.specs.declared.Refusal.{Refusal}
 use Rattle.refusals.specs.declared.Refusal.TheVariants as refusal
 use Rattle.planner.specs.Model.{Model, Closed, Opened}
 use Rattle.planner.specs.Roster.{model_of, well_formed}
-use Rattle.refusals.specs.Numbers.{refusal_number, number_of}
-use Rattle.filing.specs.declared.Filing.{Filing}
+use Rattle.refusals.specs.Numbers.{refusal_number}
 
 -- A reply by its number, the whole page with it, and how many bytes of the page were written.
 pub record Filed : Type 0 where
@@ -22,13 +21,14 @@ pub record Filed : Type 0 where
   pub page : List ℕ
   pub count : ℕ
 
--- What the code's answer and the page after it say.
-abbrev pub filed_by : Filing → List ℕ → Filed
-filed_by filing page = record { number = number_of filing.answer; page = page; count = filing.count }
-
 -- "A refused frame writes nothing …".
 abbrev pub unwritten : Refusal → List ℕ → Filed
 unwritten refusal page = record { number = refusal_number refusal; page = page; count = 0 }
+
+-- What the code's answer, how many bytes were written or a refusal, and the page after it say.
+abbrev pub filed_by : Result ℕ Refusal → List ℕ → Filed
+filed_by (Ok count) page = record { number = 0; page = page; count = count }
+filed_by (Err refusal) page = unwritten refusal page
 
 -- A line on a page from a place on, or 6.
 unfoldable pub put_on : List ℕ → ℕ → List ℕ → Filed

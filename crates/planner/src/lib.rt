@@ -237,7 +237,8 @@ impl Roster {
         let Some(totals) = share.totals.with(job) else {
             return Err(Refusal::HyperperiodTooLong);
         };
-        let jobs = put_in(self.jobs, held, at, job);
+        let mut jobs = self.jobs;
+        put_in(&mut jobs[..held + 1], at, job);
         Ok(Offer { jobs, totals })
     }
 
@@ -263,8 +264,7 @@ impl Roster {
         let Ok(at) = find(share.jobs, id as u16) else {
             return Err(Refusal::IdNotHeld);
         };
-        let jobs = take_out(self.jobs, self.held as usize, at);
-        self.jobs = jobs;
+        take_out(&mut self.jobs[..self.held as usize], at);
         self.held -= 1;
         Ok(())
     }

@@ -16,7 +16,6 @@ use Rattle.planner.specs.Model.{Model, Closed, Opened, Admit, step}
 use Rattle.planner.specs.Roster.{empty_roster, roster_of}
 use Rattle.planner.specs.Calls.{outcome_number}
 use Rattle.planner.specs.Claims.{Kept, roster_with, example_model}
-use Rattle.refusals.specs.declared.Answer.TheVariants.{Accepted}
 use Rattle.refusals.specs.declared.Refusal.TheVariants.{Damaged, NoMachine, JobNumbers, IdHeld, PlacesFull, HyperperiodTooLong}
 use Rattle.refusals.specs.Numbers.{number_of}
 use Rattle.filing.specs.Claims.{ReplyRule}

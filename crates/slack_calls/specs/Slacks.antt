@@ -1,5 +1,5 @@
 -- The slack calls (02, 2026-01): frame 83 of the plan of a roster, written on a page; and the slack with a job that is not held yet, as numbers.
-use Rattle.std.specs.Prelude.{ℕ, ◌-◌, List, ◌++◌, pos, replicate}
+use Rattle.std.specs.Prelude.{ℕ, ◌-◌, List, ◌++◌, Result, Ok, Err, pos, replicate}
 use Rattle.gmf.specs.declared.Machine.{Machine}
 use Rattle.gmf.specs.declared.Job.{Job}
 use Rattle.gmf.specs.Growing.{Growth, Grown, NoPlan, plan_of}
@@ -11,9 +11,8 @@ use Rattle.planner.specs.Model.{Model, Closed, Opened, Outcome, refused, accepte
 use Rattle.planner.specs.Offers.{offer, offer_on}
 use Rattle.refusals.specs.declared.Refusal.{Refusal}
 use Rattle.refusals.specs.declared.Refusal.TheVariants as refusal
-use Rattle.refusals.specs.declared.Answer.TheVariants.{Accepted, Refused}
 use Rattle.filing.specs.Plans.{Filed, unwritten, put_on, reply_on}
-use Rattle.slack_calls.specs.declared.SlackAnswer.{SlackAnswer}
+use Rattle.slack_calls.specs.declared.Slacks.{Slacks}
 
 -- ---- Frame 83 on a page
 
@@ -42,28 +41,23 @@ slack_reply = reply_on slack_filed
 -- ---- With a job not yet held, as numbers
 
 -- The slack of tests 1 to m under a plan, with zeros after it to 32.
-unfoldable pub slack_under : Machine → List Job → List ℕ → SlackAnswer
+unfoldable pub slack_under : Machine → List Job → List ℕ → Slacks
 slack_under M jobs plan =
     record {
-      answer = Accepted;
       ticks = ticks_of M jobs plan ++ replicate (32 - M.processors) (pos 0);
       remainders = remainders_of M jobs plan ++ replicate (32 - M.processors) 0;
     }
 
--- A refusal, and zeros.
-unfoldable pub no_slack : Refusal → SlackAnswer
-no_slack refusal = record { answer = Refused refusal; ticks = replicate 32 (pos 0); remainders = replicate 32 0 }
-
 -- "… gives the same as numbers, writing no page, with the job added and every core at top speed …". No job is added where no machine is open.
-unfoldable pub slack_on : Outcome → SlackAnswer
-slack_on (refused refusal) = no_slack refusal
-slack_on (accepted Closed) = no_slack refusal.NoMachine
-slack_on (accepted (Opened M table jobs)) = slack_under M jobs (all_at_top M)
+unfoldable pub slack_on : Outcome → Result Slacks Refusal
+slack_on (refused refusal) = Err refusal
+slack_on (accepted Closed) = Err refusal.NoMachine
+slack_on (accepted (Opened M table jobs)) = Ok (slack_under M jobs (all_at_top M))
 
 -- "For a job not yet held, a library call refused as 03 is, but never by 17 …": on the model, which stays, …
-unfoldable pub slack_with : Model → ℕ → ℕ → ℕ → ℕ → SlackAnswer
+unfoldable pub slack_with : Model → ℕ → ℕ → ℕ → ℕ → Result Slacks Refusal
 slack_with model id cost period deadline = slack_on (offer model id cost period deadline)
 
 -- … and on a roster.
-unfoldable pub slack_to : Roster → ℕ → ℕ → ℕ → ℕ → SlackAnswer
+unfoldable pub slack_to : Roster → ℕ → ℕ → ℕ → ℕ → Result Slacks Refusal
 slack_to r id cost period deadline = slack_on (offer_on r id cost period deadline)

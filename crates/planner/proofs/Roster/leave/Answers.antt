@@ -48,10 +48,3 @@ overflow_sub-self c =
     let sound : IsSound c.args.self.now = (share_open _ _ c.in_ok-share.ensures entries places).0 in
     leave_some _ entries places sound _ (sym c.if-not-one_to.ensures) (found_there _ _ c.in_ok-share.ensures.jobs _ _ c.in-Ok.ensures).0
 
-pub returns : goal.returns
-returns c =
-    let entries : length c.args.self.now.table ≡ 32 = search rules in
-    let places : length c.args.self.now.jobs ≡ 64 = search rules in
-    let sound : IsSound c.args.self.now = (share_open _ _ c.in_ok-share.ensures entries places).0 in
-    let there = found_there _ _ c.in_ok-share.ensures.jobs _ _ c.in-Ok.ensures in
-    leave_out _ entries places sound _ (sym c.if-not-one_to.ensures) there.0 _ _ there.1 c.take_out-jobs.ensures

@@ -75,13 +75,3 @@ returns-in_default-with c =
     offer_long _ entries places open_at.0 _ _ _ _ new.0 _ new.1 (found_none _ _ c.in_ok-share.ensures.jobs _ _ c.in-Err.ensures).0 (omega (arith, held, c.if-held-ge-PLACES.false)) _ open_at.1 _
     c.with.ensures c.in_default-with.is
 
-pub returns : goal.returns
-returns c =
-    let entries : length c.args.self.now.table ≡ 32 = search rules in
-    let places : length c.args.self.now.jobs ≡ 64 = search rules in
-    let held = share_count c.args.self.now c.in_ok-share.share c.in_ok-share.ensures entries places in
-    let open_at = share_open _ _ c.in_ok-share.ensures entries places in
-    let new = job_there _ _ _ _ _ c.in_ok-job.ensures in
-    let none = found_none _ _ c.in_ok-share.ensures.jobs _ _ c.in-Err.ensures in
-    offer_more _ entries places open_at.0 _ _ _ _ new.0 _ new.1 none.0 (omega (arith, held, c.if-held-ge-PLACES.false)) _ open_at.1 _ c.with.ensures _ c.in-Within.is _ _ none.1
-    c.put_in-jobs.ensures
