@@ -1,6 +1,7 @@
 -- The list of calls and its book (01): every call with its arguments, what comes of it on the model, and what comes of making it on a roster.
-use Rattle.std.specs.Prelude.{ℕ, List, [], ◌∷◌, ◌++◌, ℤ}
+use Rattle.std.specs.Prelude.{ℕ, List, [], ◌∷◌, ◌++◌, ℤ, Result}
 use Rattle.planner.specs.declared.Roster.{Roster}
+use Rattle.refusals.specs.declared.Refusal.{Refusal}
 use Rattle.refusals.specs.declared.Refusal.TheVariants.{Malformed}
 use Rattle.planner.specs.Model.{Model, Closed, step}
 use Rattle.planner.specs.Model as planner
@@ -9,8 +10,8 @@ use Rattle.refusals.specs.Numbers.{refusal_number, number_of}
 use Rattle.planner.specs.Calls.{outcome_number, after}
 use Rattle.imports.specs.Imports.{imported, import_reply}
 use Rattle.filing.specs.Plans.{Filed, filed, plan_reply}
-use Rattle.slack_calls.specs.declared.SlackAnswer.{SlackAnswer}
-use Rattle.slack_calls.specs.Slacks.{slack_filed, slack_reply, slack_with, slack_to}
+use Rattle.slack_calls.specs.declared.Slacks.{Slacks}
+use Rattle.slack_calls.specs.Slacks.{slack_filed, slack_reply, ticks_in, remainders_in, slack_with, slack_to}
 use Rattle.calls.specs.Lines.{Asked, malformed, change, plan, slack, asked, line_reply}
 
 -- "Each call, made with numbers or as a line … Every other argument stands in the list by its value, the bytes of lent lines, tables and pages
@@ -43,8 +44,8 @@ abbrev pub done : {S : Type 0} → ℕ → List ℕ → S → Done S
 done number page next = record { reply = record { number = number; page = page; ticks = []; remainders = [] }; next = next }
 
 -- A call that gives values, and is lent no page.
-abbrev pub gave : {S : Type 0} → SlackAnswer → S → Done S
-gave given next = record { reply = record { number = number_of given.answer; page = []; ticks = given.ticks; remainders = given.remainders }; next = next }
+abbrev pub gave : {S : Type 0} → Result Slacks Refusal → S → Done S
+gave given next = record { reply = record { number = number_of given; page = []; ticks = ticks_in given; remainders = remainders_in given }; next = next }
 
 -- ---- On the model: "The book is fed these arguments alone, never a reply or the roster."
 

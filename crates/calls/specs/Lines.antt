@@ -1,10 +1,11 @@
 -- A call made as a line: what the line asks for, and what the call on a roster replies.
-use Rattle.std.specs.Prelude.{ℕ, Bool, true, false, List, [], take}
+use Rattle.std.specs.Prelude.{ℕ, Bool, true, false, List, [], Option, Some, None, Result, Ok, Err, take}
 use Rattle.frame_kinds.specs.declared.Frame.{Frame}
 use Rattle.frame_kinds.specs.declared.Frame.TheVariants as frame
 use Rattle.frame_kinds.specs.Frames.{reading_of}
 use Rattle.frame_reader.specs.Frames.{said_by}
 use Rattle.planner.specs.declared.Roster.{Roster}
+use Rattle.refusals.specs.declared.Refusal.{Refusal}
 use Rattle.refusals.specs.declared.Refusal.TheVariants.{Malformed, Damaged}
 use Rattle.planner.specs.Model.{OpenMachine, ReplaceTable, Admit, Retire}
 use Rattle.planner.specs.Model as planner
@@ -22,20 +23,20 @@ pub data Asked : Type 0 where
   slack : Asked
 
 -- The kinds 01 to 07 with their numbers.
-unfoldable pub asked_as : Frame → List ℕ → Asked
-asked_as frame.Malformed values = malformed
-asked_as (frame.Machine m L b d) values = change (OpenMachine m L b d)
-asked_as (frame.Power count) values = change (ReplaceTable (take count values))
+unfoldable pub asked_as : Option Frame → Asked
+asked_as None = malformed
+asked_as (Some (frame.Machine m L b d)) = change (OpenMachine m L b d)
+asked_as (Some (frame.Power count values)) = change (ReplaceTable (take count values))
 -- "Frame 03 means D = T." (02, 2026-04)
-asked_as (frame.Admit id cost period) values = change (Admit id cost period period)
-asked_as (frame.Retire id) values = change (Retire id)
-asked_as frame.PlanWanted values = plan
-asked_as frame.SlackWanted values = slack
-asked_as (frame.AdmitDue id cost period deadline) values = change (Admit id cost period deadline)
+asked_as (Some (frame.Admit id cost period)) = change (Admit id cost period period)
+asked_as (Some (frame.Retire id)) = change (Retire id)
+asked_as (Some frame.PlanWanted) = plan
+asked_as (Some frame.SlackWanted) = slack
+asked_as (Some (frame.AdmitDue id cost period deadline)) = change (Admit id cost period deadline)
 
 -- A line, its 0A with it.
 unfoldable pub asked : List ℕ → Asked
-asked line = asked_as (reading_of (said_by line)).frame (reading_of (said_by line)).values
+asked line = asked_as (reading_of (said_by line))
 
 -- A frame 05 or 07: it wants a frame on a page.
 unfoldable pub wants_frame : Asked → Bool
@@ -51,9 +52,19 @@ pub record LineReply : Type 0 where
   pub page : List ℕ
   pub count : ℕ
 
+-- How many bytes an answer says were written; none where it is a refusal.
+abbrev pub count_in : Result ℕ Refusal → ℕ
+count_in (Ok count) = count
+count_in (Err refusal) = 0
+
 -- What the code's answer and the page after it say.
 abbrev pub answered_on : LineAnswer → List ℕ → LineReply
-answered_on answer page = record { number = number_of answer.answer; roster = answer.roster; page = page; count = answer.count }
+answered_on given page = record { number = number_of given.answer; roster = given.roster; page = page; count = count_in given.answer }
+
+-- The answer of a call that writes on no page.
+abbrev pub nothing_written : Result (Unit {0}) Refusal → Result ℕ Refusal
+nothing_written (Ok accepted) = Ok 0
+nothing_written (Err refusal) = Err refusal
 
 -- "… any malformed line by 5; the book and the page stay." But 7 "is looked at before everything else".
 unfoldable pub malformed_number : Roster → ℕ

@@ -5,11 +5,11 @@ use Rattle.clocks.specs.declared.Clock.{Clock}
 use Rattle.clocks.specs.declared.ListError.{ListError}
 use Rattle.clocks.specs.declared.ListError.TheVariants.{NoList, Uneven}
 use Rattle.clocks.specs.Clocks.{clock_of}
+use Rattle.refusals.specs.declared.Refusal.{Refusal}
 use Rattle.refusals.specs.declared.Refusal.TheVariants.{Processors, FrequencyList, UnevenGaps}
 use Rattle.planner.specs.declared.Reply.{Reply}
-use Rattle.planner.specs.Model.{Closed, OpenMachine, Outcome, refused, refuse_if, step}
-use Rattle.planner.specs.Roster.{empty_roster, replied}
-use Rattle.imports.specs.declared.Found.{Found}
+use Rattle.planner.specs.Model.{Closed, OpenMachine, Outcome, refused, accepted, refuse_if, step}
+use Rattle.planner.specs.Roster.{empty_roster, roster_of, replied}
 
 -- "It refuses by 18 anything but … numbers …, and by 19 uneven gaps"; otherwise "the book reads it as a machine call with that processor count and
 -- those speeds". The call is made on the empty model, so that it never meets 12.
@@ -26,6 +26,7 @@ imported m list = refuse_if (not (one_to 32 m)) Processors (by_clock m (clock_of
 unfoldable pub import_reply : ℕ → List ℕ → Reply
 import_reply m list = replied empty_roster (imported m list)
 
--- The answer, and the machine of the roster.
-abbrev pub found_in : Reply → Found
-found_in reply = record { answer = reply.answer; machine = reply.roster.machine }
+-- The refusal, or the machine of the roster.
+unfoldable pub found_in : Outcome → Result Machine Refusal
+found_in (refused refusal) = Err refusal
+found_in (accepted model) = Ok (roster_of model).machine

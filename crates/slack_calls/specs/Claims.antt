@@ -19,8 +19,8 @@ use Rattle.planner.specs.Claims.{Kept, roster_with, example_model}
 use Rattle.refusals.specs.declared.Refusal.TheVariants.{Damaged, NoMachine, JobNumbers, IdHeld, PlacesFull, HyperperiodTooLong}
 use Rattle.refusals.specs.Numbers.{number_of}
 use Rattle.filing.specs.Claims.{ReplyRule}
-use Rattle.slack_calls.specs.declared.SlackAnswer.{SlackAnswer}
-use Rattle.slack_calls.specs.Slacks.{slack_line, slack_filed, slack_reply, no_slack, slack_with, slack_to}
+use Rattle.slack_calls.specs.declared.Slacks.{Slacks}
+use Rattle.slack_calls.specs.Slacks.{slack_line, slack_filed, slack_reply, ticks_in, remainders_in, slack_with, slack_to}
 
 -- ---- Frame 83 on a page
 
@@ -67,8 +67,8 @@ SlackClosed = (page : List ℕ) (place : ℕ) → slack_filed Closed page place 
 -- ---- With a job not yet held, as numbers
 
 -- The number of an answer.
-abbrev pub number_in : SlackAnswer → ℕ
-number_in given = number_of given.answer
+abbrev pub number_in : Result Slacks Refusal → ℕ
+number_in = number_of
 
 -- The number that an admission of the job gets on a model.
 abbrev pub admission : Model → ℕ → ℕ → ℕ → ℕ → ℕ
@@ -85,20 +85,20 @@ pub record WithRule (model : Model) (id cost period deadline : ℕ) : Type 0 whe
   pub never_17 : number_in (slack_with model id cost period deadline) ≡ 17 → ⊥
   pub never_7 : number_in (slack_with model id cost period deadline) ≡ 7 → ⊥
   -- 32 entries each; on a refusal all are 0.
-  pub ticks_size : length (slack_with model id cost period deadline).ticks ≡ 32
-  pub zeros : (number_in (slack_with model id cost period deadline) ≡ 0 → ⊥) → (slack_with model id cost period deadline).ticks ≡ replicate 32 (pos 0)
+  pub ticks_size : length (ticks_in (slack_with model id cost period deadline)) ≡ 32
+  pub zeros : (number_in (slack_with model id cost period deadline) ≡ 0 → ⊥) → ticks_in (slack_with model id cost period deadline) ≡ replicate 32 (pos 0)
   -- "… there the remainder is always 0."
-  pub no_remainder : (slack_with model id cost period deadline).remainders ≡ replicate 32 0
+  pub no_remainder : remainders_in (slack_with model id cost period deadline) ≡ replicate 32 0
   -- Otherwise those of test k + 1, which has (k + 1) × H ticks at top speed, for the jobs with the new one; and 0 from m on.
   pub ticks_at_law : (M : Machine) (table : List ℕ) (jobs : List Job) → model ≡ Opened M table jobs → number_in (slack_with model id cost period deadline) ≡ 0
       → (k : ℕ) → k < M.processors
       →
       let more = insert (job_due id cost period deadline) jobs in
-      get_or (slack_with model id cost period deadline).ticks k (pos 0) ≡ sub_ℕ (suc k * hyperperiod more) (demand M (hyperperiod more) (works more) (suc k))
+      get_or (ticks_in (slack_with model id cost period deadline)) k (pos 0) ≡ sub_ℕ (suc k * hyperperiod more) (demand M (hyperperiod more) (works more) (suc k))
   pub zeros_after : (M : Machine) (table : List ℕ) (jobs : List Job) → model ≡ Opened M table jobs
-      → (k : ℕ) → M.processors ≤ k → get_or (slack_with model id cost period deadline).ticks k (pos 0) ≡ pos 0
+      → (k : ℕ) → M.processors ≤ k → get_or (ticks_in (slack_with model id cost period deadline)) k (pos 0) ≡ pos 0
   -- Some tick is below zero exactly when the admission is refused by 17.
-  pub short : ((k : ℕ) × (get_or (slack_with model id cost period deadline).ticks k (pos 0) <ℤ pos 0)) ↔ (admission model id cost period deadline ≡ 17)
+  pub short : ((k : ℕ) × (get_or (ticks_in (slack_with model id cost period deadline)) k (pos 0) <ℤ pos 0)) ↔ (admission model id cost period deadline ≡ 17)
 
 -- ---- Known results
 
@@ -129,21 +129,21 @@ pub record SlackTrials : Type 0 where
   pub no_machine : slack_reply empty_roster [] 1 ≡ record { number = 11; page = []; count = 0 }
   -- 01's sheet, offered the job 11/10 that it turns down: 10, 20, 30 and 40 ticks, works of 11, 21, 30 and, all, 42.
   pub offered : slack_with (example_model 5) 6 11 10 10
-      ≡ record { answer = Accepted; ticks = negsuc 0 ∷ negsuc 0 ∷ pos 0 ∷ negsuc 1 ∷ replicate 28 (pos 0); remainders = replicate 32 0 }
+      ≡ Ok (record { ticks = negsuc 0 ∷ negsuc 0 ∷ pos 0 ∷ negsuc 1 ∷ replicate 28 (pos 0); remainders = replicate 32 0 })
   -- A job 9/10: works of 10, 19, 28 and, all, 40.
   pub fitting : slack_with (example_model 5) 6 9 10 10
-      ≡ record { answer = Accepted; ticks = pos 0 ∷ pos 1 ∷ pos 2 ∷ pos 0 ∷ replicate 28 (pos 0); remainders = replicate 32 0 }
+      ≡ Ok (record { ticks = pos 0 ∷ pos 1 ∷ pos 2 ∷ pos 0 ∷ replicate 28 (pos 0); remainders = replicate 32 0 })
   -- A job of cost 4 and period 10 that is due after 5 ticks: works of 10, 19, 27 and, all, 39.
   pub due : slack_with (example_model 5) 6 4 10 5
-      ≡ record { answer = Accepted; ticks = pos 0 ∷ pos 1 ∷ pos 3 ∷ pos 1 ∷ replicate 28 (pos 0); remainders = replicate 32 0 }
+      ≡ Ok (record { ticks = pos 0 ∷ pos 1 ∷ pos 3 ∷ pos 1 ∷ replicate 28 (pos 0); remainders = replicate 32 0 })
   -- Each refusal, with the next one in the order as well: 7, 11, 4, 13, 15; and 16 where 17 would come next.
-  pub damaged : slack_to (roster_with (machine 1 1 1 1) (1 ∷ []) 1 []) 0 0 0 0 ≡ no_slack Damaged
-  pub closed : slack_to empty_roster 0 0 0 0 ≡ no_slack NoMachine
-  pub out_of_range : slack_with (example_model 5) 1 0 10 10 ≡ no_slack JobNumbers
-  pub past_period : slack_with (example_model 5) 1 4 10 11 ≡ no_slack JobNumbers
-  pub held : slack_with (example_model 5) 1 11 10 10 ≡ no_slack IdHeld
-  pub full : slack_with (Opened (machine 1 1 1 1) (1 ∷ []) (replicate 64 (job 1 1 4096))) 65 9000 4097 4097 ≡ no_slack PlacesFull
-  pub too_long : slack_with (Opened (machine 1 1 1 1) (1 ∷ []) (job 1 1 4096 ∷ [])) 2 9000 4097 4097 ≡ no_slack HyperperiodTooLong
+  pub damaged : slack_to (roster_with (machine 1 1 1 1) (1 ∷ []) 1 []) 0 0 0 0 ≡ Err Damaged
+  pub closed : slack_to empty_roster 0 0 0 0 ≡ Err NoMachine
+  pub out_of_range : slack_with (example_model 5) 1 0 10 10 ≡ Err JobNumbers
+  pub past_period : slack_with (example_model 5) 1 4 10 11 ≡ Err JobNumbers
+  pub held : slack_with (example_model 5) 1 11 10 10 ≡ Err IdHeld
+  pub full : slack_with (Opened (machine 1 1 1 1) (1 ∷ []) (replicate 64 (job 1 1 4096))) 65 9000 4097 4097 ≡ Err PlacesFull
+  pub too_long : slack_with (Opened (machine 1 1 1 1) (1 ∷ []) (job 1 1 4096 ∷ [])) 2 9000 4097 4097 ≡ Err HyperperiodTooLong
 
 -- ---- All of it
 

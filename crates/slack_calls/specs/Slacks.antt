@@ -1,5 +1,5 @@
 -- The slack calls (02, 2026-01): frame 83 of the plan of a roster, written on a page; and the slack with a job that is not held yet, as numbers.
-use Rattle.std.specs.Prelude.{ℕ, ◌-◌, List, ◌++◌, Result, Ok, Err, pos, replicate}
+use Rattle.std.specs.Prelude.{ℕ, ℤ, ◌-◌, List, ◌++◌, Result, Ok, Err, pos, replicate}
 use Rattle.gmf.specs.declared.Machine.{Machine}
 use Rattle.gmf.specs.declared.Job.{Job}
 use Rattle.gmf.specs.Growing.{Growth, Grown, NoPlan, plan_of}
@@ -47,6 +47,15 @@ slack_under M jobs plan =
       ticks = ticks_of M jobs plan ++ replicate (32 - M.processors) (pos 0);
       remainders = remainders_of M jobs plan ++ replicate (32 - M.processors) 0;
     }
+
+-- The ticks and the remainders that an answer gives; a refusal gives zeros.
+abbrev pub ticks_in : Result Slacks Refusal → List ℤ
+ticks_in (Ok slacks) = slacks.ticks
+ticks_in (Err refusal) = replicate 32 (pos 0)
+
+abbrev pub remainders_in : Result Slacks Refusal → List ℕ
+remainders_in (Ok slacks) = slacks.remainders
+remainders_in (Err refusal) = replicate 32 0
 
 -- "… gives the same as numbers, writing no page, with the job added and every core at top speed …". No job is added where no machine is open.
 unfoldable pub slack_on : Outcome → Result Slacks Refusal
