@@ -1,22 +1,20 @@
 // The desk's sheets, page by page. The definitions are in specs/.
 #![tactic(auto)]
 
-ghost use Rattle.std.specs.Prelude.{◌≡◌, ◌+◌, ◌≤◌, true, ◌⊎◌, ◌↔◌, length, drop};
+ghost use Rattle.std.specs.Prelude.{◌≡◌, ◌+◌, ◌≤◌, ◌⊎◌, length, drop};
 ghost use Rattle.hexadecimal.specs.Text.{line_of};
-ghost use Rattle.frame_kinds.specs.declared.Frame.TheVariants.{Malformed};
 ghost use Rattle.frame_reader.specs.Lines.{lines_of};
 ghost use Rattle.frame_writer.specs.Frames.{refusal_bytes};
 ghost use Rattle.planner.specs.declared.Roster as rosters;
 ghost use Rattle.refusals.specs.Numbers.{number_of};
 ghost use Rattle.filing.specs.Plans.{put_on};
+ghost use Rattle.calls.specs.Lines.{count_in};
 ghost use Rattle.desk.specs.Pages.{at_start, settled, filled_on, fill_lines, fill_too_long, fill_page};
 
 use calls::{call_frame, malformed};
-use frame_kinds::Frame;
 use frame_reader::{line_end, read_line};
-use line_writer::Placing;
 use planner::Roster;
-use refusals::Answer;
+use refusals::Refusal;
 
 // The longest sheet; the longest frame out with its 0A.
 const LONGEST_SHEET: usize = 65536;
@@ -42,54 +40,20 @@ pub struct Filled {
 fn put_refusal(line: u32, number: u8, page: &mut [u8], place: usize) -> usize
     ensures { (result ≡ (put_on page.old place (line_of (refusal_bytes line number))).count) × (page.new ≡ (put_on page.old place (line_of (refusal_bytes line number))).page) }
 {
-    let placing = frame_writer::write_refusal(line, number, page, place);
-    match placing {
-        Placing::Written => 13,
-        Placing::NoRoom => 0,
+    match frame_writer::write_refusal(line, number, page, place) {
+        Ok(()) => 13,
+        Err(_) => 0,
     }
 }
 
 // Files the refusal of a line, where it was refused; how far the page is filled then.
-fn settle(answer: Answer, count: usize, line: u32, page: &mut [u8], place: usize) -> usize
-    requires { (count ≡ 0) ⊎ (place + count ≤ length page.old) }
-    ensures { (roster : rosters.Roster) → record { roster = roster; page = page.new; end = result } ≡ settled line place record { number = number_of answer; roster = roster; page = page.old; count = count } }
+fn settle(answer: Result<usize, Refusal>, line: u32, page: &mut [u8], place: usize) -> usize
+    requires { (count_in answer ≡ 0) ⊎ (place + count_in answer ≤ length page.old) }
+    ensures { (roster : rosters.Roster) → record { roster = roster; page = page.new; end = result } ≡ settled line place record { number = number_of answer; roster = roster; page = page.old; count = count_in answer } }
 {
     match answer {
-        Answer::Accepted => place + count,
-        Answer::Refused(refusal) => {
-            let written = put_refusal(line, refusal.number(), page, place);
-            place + written
-        }
-    }
-}
-
-// Whether a line has no frame.
-fn is_malformed(frame: Frame) -> bool
-    ensures { (result ≡ true) ↔ (frame ≡ Malformed) }
-{
-    match frame {
-        Frame::Malformed => true,
-        Frame::Machine {
-            processors: _,
-            levels: _,
-            lowest: _,
-            step: _,
-        } => false,
-        Frame::Power { count: _ } => false,
-        Frame::Admit {
-            id: _,
-            cost: _,
-            period: _,
-        } => false,
-        Frame::Retire { id: _ } => false,
-        Frame::PlanWanted => false,
-        Frame::SlackWanted => false,
-        Frame::AdmitDue {
-            id: _,
-            cost: _,
-            period: _,
-            deadline: _,
-        } => false,
+        Ok(count) => place + count,
+        Err(refusal) => place + put_refusal(line, refusal.number(), page, place),
     }
 }
 
@@ -99,32 +63,25 @@ fn fill_lines(desk: Desk, sheet: &[u8], page: &mut [u8]) -> Filled
     ensures { filled_on result page.new ≡ fill_lines desk (lines_of (drop desk.at sheet.now)) page.old 0 }
 {
     let mut roster = desk.roster;
-    let refusal = malformed(roster);
+    let refusal = malformed(&roster);
     let mut at = desk.at;
     let mut line = desk.line;
     let mut end = 0;
     while at < sheet.len() {
         if page.len() - end < LONGEST_FRAME {
-            return Filled {
-                desk: Desk { roster, at, line },
-                end,
-            };
+            break;
         }
         let next = line_end(sheet, at);
-        let reading = read_line(&sheet[at..next]);
-        let frame = reading.frame;
-        if is_malformed(frame) {
-            end = settle(Answer::Refused(refusal), 0, line, page, end);
-        } else {
-            let values = reading.values;
-            let made = call_frame(roster, frame, values, page, end);
-            let answer = made.answer;
-            let after = made.roster;
-            roster = after;
-            end = settle(answer, made.count, line, page, end);
+        let frame = read_line(&sheet[at..next]);
+        let mut answer = Err(refusal);
+        if frame.is_some() {
+            let made = call_frame(roster, frame, page, end);
+            roster = made.roster;
+            answer = made.answer;
         }
+        end = settle(answer, line, page, end);
         at = next;
-        line = std::num::wrapping_add_u32(line, 1);
+        line = line.wrapping_add(1);
     }
     Filled {
         desk: Desk { roster, at, line },
