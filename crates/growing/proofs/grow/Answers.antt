@@ -128,7 +128,7 @@ raising-init c =
     let s = c.args.share in
     let g = c.joining in
     let r = ready ((goal.at.raising-init c).Joined-joined-steps) in
-    inner_begin _ _ (given s) _ _ _ _ _ _ _ _ g.invariant.1 (omega arith) _ _ _ _ (supply_is s g.supply s.machine.lowest) refl refl
+    inner_begin _ _ (given s) _ _ _ _ _ _ _ _ g.invariant.1 (omega arith) _ _ _ _ (supply_is s g.supply s.machine.lowest) (omega arith) refl
     (subst (λ (q : ℕ). Asks s.machine s.jobs.now (q * c.if-joined-steps.demand) (g.supply + s.totals.hyperperiod * s.machine.lowest) g.i)
     (sym c.top_speed-top_speed.ensures) r.asks)
 
@@ -148,7 +148,7 @@ pub raising-preserved-then-p-joined : goal.raising-preserved-then-p-joined
 raising-preserved-then-p-joined c =
     let s = c.args.share in
     inner_up _ _ (given s) _ _ _ _ _ _ _ _ c.raising.invariant (omega arith) c.raising-test.true (omega arith) _ _ _ _
-    refl refl refl (supply_is s c.raising.supply s.machine.step) _ _ refl refl (omega (arith, c.if-p-joined.true))
+    refl refl (omega arith) (supply_is s c.raising.supply s.machine.step) _ _ (omega arith) refl (omega (arith, c.if-p-joined.true))
 
 pub raising-smaller : goal.raising-smaller
 raising-smaller c =
@@ -158,7 +158,7 @@ pub raising-preserved : goal.raising-preserved
 raising-preserved c =
     let s = c.args.share in
     inner_next _ _ (given s) _ _ _ _ _ _ _ _ c.raising.invariant (omega arith) c.raising-test.true (omega arith) _ _ _ _
-    refl refl refl (supply_is s c.raising.supply s.machine.step) _ refl (omega (arith, c.if-p-joined.false, c.raising.invariant.slowest.inside))
+    refl refl (omega arith) (supply_is s c.raising.supply s.machine.step) _ (omega arith) (omega (arith, c.if-p-joined.false, c.raising.invariant.slowest.inside))
 
 pub joining-preserved : goal.joining-preserved
 joining-preserved c =
