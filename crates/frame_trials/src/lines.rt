@@ -1,11 +1,12 @@
 // Lines by themselves. Above each is what it must print, and why.
-use crate::print;
+use crate::print::Said;
 use frame_kinds::Frame;
+use frame_reader::read_line;
 use std::io;
+use std::ops::Range;
 
 fn read(rt: &impl Print, line: &[u8]) -> io::Result<()> {
-    let got = frame_reader::read_line(line);
-    print::reading(rt, got)
+    println!(rt; "{}", Said(read_line(line)))
 }
 
 fn machine_frames(rt: &impl Print) -> io::Result<()> {
@@ -131,28 +132,23 @@ pub fn damaged(rt: &impl Print) -> io::Result<()> {
 
 // Reads a line of a kind with n zero bytes after it, and prints kind and n where that is a frame.
 fn read_zeros(rt: &impl Print, kind: u8, n: usize) -> io::Result<()> {
-    let mut line = [48u8; 267];
+    let mut line = [b'0'; 267];
     if 132 < n {
         return Ok(());
     }
     let end = 2 + 2 * n;
     line[0] = hexadecimal::digit_of(kind / 16);
     line[1] = hexadecimal::digit_of(kind);
-    line[end] = 10;
-    let got = frame_reader::read_line(&line[..end + 1]);
-    let frame = got.frame;
-    if let Frame::Malformed = frame {
+    line[end] = b'\n';
+    if matches!(read_line(&line[..=end]).frame, Frame::Malformed) {
         return Ok(());
     }
-    print::text(rt, b"frame")?;
-    print::number(rt, kind as u64)?;
-    print::number(rt, n as u64)?;
-    print::text(rt, b"\n")
+    println!(rt; "frame {kind} {n}")
 }
 
 // A kind with some lengths.
-fn lengths_of(rt: &impl Print, kind: u8, from: usize, to: usize) -> io::Result<()> {
-    for n in from..to {
+fn lengths_of(rt: &impl Print, kind: u8, lengths: Range<usize>) -> io::Result<()> {
+    for n in lengths {
         read_zeros(rt, kind, n)?;
     }
     Ok(())
@@ -162,22 +158,16 @@ fn lengths_of(rt: &impl Print, kind: u8, from: usize, to: usize) -> io::Result<(
 // 132: frames are those in fours up to 128.
 pub fn lengths(rt: &impl Print) -> io::Result<()> {
     for kind in 0..=255 {
-        lengths_of(rt, kind, 0, 10)?;
+        lengths_of(rt, kind, 0..10)?;
     }
-    lengths_of(rt, 2, 10, 133)
+    lengths_of(rt, 2, 10..133)
 }
 
 // Reads 0400 with a digit more and one byte for the last, and prints the byte and the identifier where that is a frame.
 fn read_digit(rt: &impl Print, byte: u8) -> io::Result<()> {
-    let mut line = *b"04000?\n";
-    line[5] = byte;
-    let got = frame_reader::read_line(&line);
-    let frame = got.frame;
-    if let Frame::Retire { id } = frame {
-        print::text(rt, b"digit")?;
-        print::number(rt, byte as u64)?;
-        print::number(rt, id as u64)?;
-        return print::text(rt, b"\n");
+    let line = [b'0', b'4', b'0', b'0', b'0', byte, b'\n'];
+    if let Frame::Retire { id } = read_line(&line).frame {
+        println!(rt; "digit {byte} {id}")?;
     }
     Ok(())
 }

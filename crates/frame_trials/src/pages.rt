@@ -1,31 +1,34 @@
 // Frames into pages. A page is printed between bars; it is lent with a dot in each byte.
-use crate::print;
 use line_writer::Placing;
 use std::io;
 
-// The reply's number, and the whole page.
-fn result(rt: &impl Print, placing: Placing, page: &[u8]) -> io::Result<()> {
-    match placing {
-        Placing::Written => print::text(rt, b"0 |")?,
-        Placing::NoRoom => print::text(rt, b"6 |")?,
-    }
-    print::text(rt, page)?;
-    print::text(rt, b"|\n")
+// The longest page.
+const LONGEST: usize = 580;
+
+// Has a frame written on a page of that length, and prints the reply's number and the whole page.
+fn on_page<F: FnOnce(&mut [u8]) -> Placing>(
+    rt: &impl Print,
+    length: usize,
+    write: F,
+) -> io::Result<()>
+    requires { F.IsAlwaysCallable write }
+{
+    let mut room = [b'.'; LONGEST];
+    let page = &mut room[..length.min(LONGEST)];
+    let number = match write(page) {
+        Placing::Written => 0,
+        Placing::NoRoom => 6,
+    };
+    print!(rt; "{number} |")?;
+    rt.write_all(page)?;
+    println!(rt; "|")
 }
 
 // Frame 8E for line 7 and refusal 17.
-fn write_refusal(rt: &impl Print, page: &mut [u8], place: usize) -> io::Result<()> {
-    let placing = frame_writer::write_refusal(7, 17, page, place);
-    result(rt, placing, page)
-}
-
-// The same, into a page of 20 bytes or fewer.
 fn refusal(rt: &impl Print, length: usize, place: usize) -> io::Result<()> {
-    let mut page = [b'.'; 20];
-    if length <= 20 {
-        write_refusal(rt, &mut page[..length], place)?;
-    }
-    Ok(())
+    on_page(rt, length, |page| {
+        frame_writer::write_refusal(7, 17, page, place)
+    })
 }
 
 // The line is 8E0000000711 and its 0A, 13 bytes.
@@ -49,45 +52,20 @@ pub fn refusals(rt: &impl Print) -> io::Result<()> {
 }
 
 // Frame 81 for 5 jobs, H 10, power 163, 9 raises, levels 3 3 2 1.
-fn write_plan(rt: &impl Print, page: &mut [u8], place: usize) -> io::Result<()> {
-    let levels = [3, 3, 2, 1];
-    let placing = frame_writer::write_plan(5, 10, 163, 9, &levels, page, place);
-    result(rt, placing, page)
-}
-
-// The same, into a page of 40 bytes or fewer.
 fn plan(rt: &impl Print, length: usize, place: usize) -> io::Result<()> {
-    let mut page = [b'.'; 40];
-    if length <= 40 {
-        write_plan(rt, &mut page[..length], place)?;
-    }
-    Ok(())
+    on_page(rt, length, |page| {
+        frame_writer::write_plan(5, 10, 163, 9, &[3, 3, 2, 1], page, place)
+    })
 }
 
 // Frame 81 with wide numbers and 32 levels.
-fn write_longest(rt: &impl Print, page: &mut [u8]) -> io::Result<()> {
+fn longest(rt: &impl Print, length: usize) -> io::Result<()> {
     let mut levels = [31; 32];
     levels[0] = 255;
     levels[31] = 1;
-    let placing = frame_writer::write_plan(
-        255,
-        4_294_967_295,
-        305_419_896,
-        65_244,
-        &levels,
-        page,
-        0,
-    );
-    result(rt, placing, page)
-}
-
-// The same, into a page of 89 bytes or fewer.
-fn longest(rt: &impl Print, length: usize) -> io::Result<()> {
-    let mut page = [b'.'; 89];
-    if length <= 89 {
-        write_longest(rt, &mut page[..length])?;
-    }
-    Ok(())
+    on_page(rt, length, |page| {
+        frame_writer::write_plan(255, 4_294_967_295, 305_419_896, 65_244, &levels, page, 0)
+    })
 }
 
 pub fn plans(rt: &impl Print) -> io::Result<()> {
@@ -104,28 +82,20 @@ pub fn plans(rt: &impl Print) -> io::Result<()> {
 }
 
 // Frame 83 for some of 32 tests: ticks −1 and remainder 3; 0123456789ABCDEF and 255; the least number and 0; the largest and 1; then 0 and 2.
-fn write_slack(rt: &impl Print, count: usize, page: &mut [u8], place: usize) -> io::Result<()> {
-    let mut ticks = [0i64; 32];
+fn slack(rt: &impl Print, count: usize, length: usize, place: usize) -> io::Result<()> {
+    let mut ticks = [0; 32];
     ticks[0] = -1;
     ticks[1] = 81_985_529_216_486_895;
-    ticks[2] = -9_223_372_036_854_775_808;
-    ticks[3] = 9_223_372_036_854_775_807;
+    ticks[2] = i64::MIN;
+    ticks[3] = i64::MAX;
     let mut remainders = [2; 32];
     remainders[0] = 3;
     remainders[1] = 255;
     remainders[2] = 0;
     remainders[3] = 1;
-    let placing = slack_writer::write_slack(ticks, remainders, count, page, place);
-    result(rt, placing, page)
-}
-
-// The same, into a page of 580 bytes or fewer.
-fn slack(rt: &impl Print, count: usize, length: usize, place: usize) -> io::Result<()> {
-    let mut page = [b'.'; 580];
-    if length <= 580 {
-        write_slack(rt, count, &mut page[..length], place)?;
-    }
-    Ok(())
+    on_page(rt, length, |page| {
+        slack_writer::write_slack(ticks, remainders, count, page, place)
+    })
 }
 
 // A line of n tests has 18 n + 3 bytes.

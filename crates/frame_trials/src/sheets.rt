@@ -1,26 +1,19 @@
 // Sheets, line by line.
-ghost use Rattle.std.specs.Prelude.{◌≤◌, length};
-
-use crate::print;
+use crate::print::Said;
+use frame_reader::{line_end, read_line};
 use std::io;
 
-// Prints where a line starts and ends, and what it holds.
-fn line(rt: &impl Print, sheet: &[u8], start: usize, end: usize) -> io::Result<()>
-    requires { (start ≤ end) × (end ≤ length sheet.now) }
-{
-    print::text(rt, b"line")?;
-    print::number(rt, start as u64)?;
-    print::number(rt, end as u64)?;
-    print::text(rt, b" ")?;
-    print::reading(rt, frame_reader::read_line(&sheet[start..end]))
-}
-
+// Prints where each line starts and ends, and what it holds.
+#[tactic(auto, using(frame_reader::proofs::Lines::next_within))]
 fn read(rt: &impl Print, sheet: &[u8]) -> io::Result<()> {
-    print::text(rt, b"sheet\n")?;
+    println!(rt; "sheet")?;
     let mut start = 0;
     while start < sheet.len() {
-        let end = frame_reader::line_end(sheet, start);
-        line(rt, sheet, start, end)?;
+        let end = line_end(sheet, start);
+        println!(rt;
+            "line {start} {end} {}",
+            Said(read_line(&sheet[start..end]))
+        )?;
         start = end;
     }
     Ok(())
@@ -40,12 +33,10 @@ pub fn taken_apart(rt: &impl Print) -> io::Result<()> {
     // machine 4 4 1 1, malformed, retire 1, plan wanted: lines of any length, an empty one between them
     read(rt, b"01040400010001\n\n040001\n05\n")?;
     // past 3 4 18446744073709551615: a line that starts past the end of a sheet of 3 bytes ends where it starts
-    print::text(rt, b"past")?;
-    print::number(rt, frame_reader::line_end(b"05\n", 3) as u64)?;
-    print::number(rt, frame_reader::line_end(b"05\n", 4) as u64)?;
-    print::number(
-        rt,
-        frame_reader::line_end(b"05\n", 18_446_744_073_709_551_615) as u64,
-    )?;
-    print::text(rt, b"\n")
+    println!(rt;
+        "past {} {} {}",
+        line_end(b"05\n", 3),
+        line_end(b"05\n", 4),
+        line_end(b"05\n", usize::MAX)
+    )
 }

@@ -21,7 +21,7 @@ use workload::{Share, Totals, judge, load_of};
 const PLACES: usize = 64;
 
 // A machine, or none, its power table, and the jobs held, by rising id. What is not used is 0.
-#[derive(Clone, Copy)]
+#[derive(Clone, Copy, Debug, PartialEq, Eq)]
 pub struct Roster {
     pub machine: Machine,
     pub table: [u32; 32],

@@ -12,57 +12,42 @@ pub fn with_machine(roster: Roster, processors: u8, levels: u8, lowest: u16, ste
         lowest,
         step,
     };
-    let mut next = roster;
-    next.machine = machine;
-    next
+    Roster { machine, ..roster }
 }
 
 pub fn with_entry(roster: Roster, level: usize, value: u32) -> Roster {
     let mut table = roster.table;
-    if 32 <= level {
-        return roster;
+    if let Some(entry) = table.get_mut(level) {
+        *entry = value;
     }
-    table[level] = value;
-    let mut next = roster;
-    next.table = table;
-    next
+    Roster { table, ..roster }
 }
 
 pub fn with_held(roster: Roster, held: u8) -> Roster {
-    let mut next = roster;
-    next.held = held;
-    next
+    Roster { held, ..roster }
 }
 
 // A job with its period for its deadline.
 pub fn with_job(roster: Roster, place: usize, id: u16, cost: u16, period: u16) -> Roster {
     let mut jobs = roster.jobs;
-    if 64 <= place {
-        return roster;
+    if let Some(job) = jobs.get_mut(place) {
+        *job = Job {
+            id,
+            cost,
+            period,
+            deadline: period,
+        };
     }
-    jobs[place] = Job {
-        id,
-        cost,
-        period,
-        deadline: period,
-    };
-    let mut next = roster;
-    next.jobs = jobs;
-    next
+    Roster { jobs, ..roster }
 }
 
 // The deadline of the job in a place.
 pub fn with_deadline(roster: Roster, place: usize, deadline: u16) -> Roster {
     let mut jobs = roster.jobs;
-    if 64 <= place {
-        return roster;
+    if let Some(job) = jobs.get_mut(place) {
+        job.deadline = deadline;
     }
-    let mut job = jobs[place];
-    job.deadline = deadline;
-    jobs[place] = job;
-    let mut next = roster;
-    next.jobs = jobs;
-    next
+    Roster { jobs, ..roster }
 }
 
 // An accepted call changes what it names and nothing else: each roster that comes back is the one set by hand, in every field.

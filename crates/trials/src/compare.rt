@@ -1,73 +1,11 @@
 // Whether two rosters are the same: every field, all 32 entries and all 64 places.
 use crate::by_hand::{with_deadline, with_entry, with_held, with_job, with_machine};
-use crate::print;
-use gmf::Job;
 use planner::Roster;
 use std::io;
 
-fn same_table(a: [u32; 32], b: [u32; 32]) -> bool {
-    for j in 0..32 {
-        if a[j] != b[j] {
-            return false;
-        }
-    }
-    true
-}
-
-fn same_jobs(a: [Job; 64], b: [Job; 64]) -> bool {
-    for i in 0..64 {
-        let job = a[i];
-        let other = b[i];
-        if job.id != other.id {
-            return false;
-        }
-        if job.cost != other.cost {
-            return false;
-        }
-        if job.period != other.period {
-            return false;
-        }
-        if job.deadline != other.deadline {
-            return false;
-        }
-    }
-    true
-}
-
-pub fn same(a: Roster, b: Roster) -> bool {
-    let machine = a.machine;
-    let other = b.machine;
-    if machine.processors != other.processors {
-        return false;
-    }
-    if machine.levels != other.levels {
-        return false;
-    }
-    if machine.lowest != other.lowest {
-        return false;
-    }
-    if machine.step != other.step {
-        return false;
-    }
-    if a.held != b.held {
-        return false;
-    }
-    let table = a.table;
-    let other_table = b.table;
-    if !same_table(table, other_table) {
-        return false;
-    }
-    let jobs = a.jobs;
-    let other_jobs = b.jobs;
-    same_jobs(jobs, other_jobs)
-}
-
 pub fn compare(rt: &impl Print, a: Roster, b: Roster) -> io::Result<()> {
-    if same(a, b) {
-        print::text(rt, b"compared: same\n")
-    } else {
-        print::text(rt, b"compared: other\n")
-    }
+    let what = if a == b { "same" } else { "other" };
+    println!(rt; "compared: {what}")
 }
 
 // The comparison itself: a roster is the same as itself, and another where any one field is.

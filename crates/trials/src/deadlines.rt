@@ -35,23 +35,23 @@ pub fn sooner(rt: &impl Print) -> io::Result<()> {
     // 0, and the same roster as with the period alone; jobs 1: 1 2 4 4
     let roster = admit_due(rt, machine, 1, 2, 4, 4)?;
     compare(rt, roster, admitted(machine, 1, 2, 4))?;
-    print::jobs(rt, roster)?;
+    print::jobs(rt, &roster)?;
     // cycle 4 work 2, cycle 3 work 2, cycle 2 work 2: D is 4, 3 and 2
-    print::cycle(rt, roster)?;
-    print::cycle(rt, admit_due(rt, machine, 1, 2, 4, 3)?)?;
-    print::cycle(rt, admit_due(rt, machine, 1, 2, 4, 2)?)?;
+    print::cycle(rt, &roster)?;
+    print::cycle(rt, &admit_due(rt, machine, 1, 2, 4, 3)?)?;
+    print::cycle(rt, &admit_due(rt, machine, 1, 2, 4, 2)?)?;
     // 17, not 4: C exceeds D
     admit_due(rt, machine, 1, 2, 4, 1)?;
     // 0, 0: half of the time each, one by its deadline; 17: the least job beside them
     let full = admit(rt, admit_due(rt, machine, 2, 1, 4, 2)?, 5, 1, 2)?;
     admit_due(rt, full, 9, 1, 65_535, 65_535)?;
     // jobs 2: 2 1 4 2, 5 1 2 2; cycle 2 work 2
-    print::jobs(rt, full)?;
-    print::cycle(rt, full)?;
+    print::jobs(rt, &full)?;
+    print::cycle(rt, &full)?;
     // 0, 0: the id serves again with another deadline; jobs 2: 2 1 4 3, 5 1 2 2; cycle 6 work 5
     let again = admit_due(rt, retire(rt, full, 2)?, 2, 1, 4, 3)?;
-    print::jobs(rt, again)?;
-    print::cycle(rt, again)
+    print::jobs(rt, &again)?;
+    print::cycle(rt, &again)
 }
 
 // H goes by the deadlines, whatever the periods.
@@ -61,12 +61,12 @@ pub fn cycles(rt: &impl Print) -> io::Result<()> {
     let mut roster = admit_due(rt, machine, 1, 1, 1152, 576)?;
     roster = admit_due(rt, roster, 2, 1, 1024, 512)?;
     roster = admit_due(rt, roster, 3, 1, 960, 480)?;
-    print::cycle(rt, roster)?;
+    print::cycle(rt, &roster)?;
     // cycle 2880 work 11: 576 is 2⁶ × 9 and 480 is 2⁵ × 15, so H is 2⁶ × 45; works 5 and 6
-    print::cycle(rt, retire(rt, roster, 2)?)?;
+    print::cycle(rt, &retire(rt, roster, 2)?)?;
     // 0, 0: periods 4096 and 4097; cycle 4096 work 3
     roster = admit_due(rt, admit(rt, machine, 1, 1, 4096)?, 2, 1, 4097, 2048)?;
-    print::cycle(rt, roster)?;
+    print::cycle(rt, &roster)?;
     // 16: deadlines 4096 and 4097, each in a period of 8192; 0: 4095 and 4097; cycle 16777215 work 8192
     admit_due(
         rt,
@@ -84,7 +84,7 @@ pub fn cycles(rt: &impl Print) -> io::Result<()> {
         8192,
         4097,
     )?;
-    print::cycle(rt, roster)?;
+    print::cycle(rt, &roster)?;
     // 16: 257 × 65281 is one above the limit
     admit_due(
         rt,
@@ -100,20 +100,20 @@ pub fn cycles(rt: &impl Print) -> io::Result<()> {
 // 11, 4, 13, 15, 16, 17: each two neighbours.
 pub fn order(rt: &impl Print) -> io::Result<()> {
     let roster = admitted(opened(1, 3, 2, 3), 10, 1, 4096);
-    print::text(rt, b"11 before 4: ")?;
+    print!(rt; "11 before 4: ")?;
     admit_due(rt, Roster::empty(), 10, 1, 8, 9)?;
-    print::text(rt, b"4 before 13: ")?;
+    print!(rt; "4 before 13: ")?;
     admit_due(rt, roster, 10, 1, 8, 9)?;
     let most = equal_jobs(roster, 64, 1, 4096);
-    print::text(rt, b"13 before 15: ")?;
+    print!(rt; "13 before 15: ")?;
     admit_due(rt, most, 10, 1, 8, 4)?;
-    print::text(rt, b"15 before 16: ")?;
+    print!(rt; "15 before 16: ")?;
     admit_due(rt, most, 5, 1, 8192, 4097)?;
-    print::text(rt, b"15 before 17: ")?;
+    print!(rt; "15 before 17: ")?;
     admit_due(rt, most, 5, 2, 8, 1)?;
-    print::text(rt, b"16 before 17: ")?;
+    print!(rt; "16 before 17: ")?;
     admit_due(rt, roster, 20, 4098, 8192, 4097)?;
-    print::text(rt, b"17: ")?;
+    print!(rt; "17: ")?;
     admit_due(rt, roster, 20, 4097, 8192, 4096)?;
     Ok(())
 }

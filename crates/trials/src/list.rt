@@ -38,7 +38,7 @@ pub fn calls(rt: &impl Print) -> io::Result<()> {
     roster = admit(rt, roster, 2, 1, 65_536)?;
     // 0: 65521 is prime, so H is 24 × 65521 = 1,572,504; works 24 × 65521 and 24, 1572528 together
     roster = admit(rt, roster, 2, 1, 65_521)?;
-    print::cycle(rt, roster)?;
+    print::cycle(rt, &roster)?;
     // 16: 65519 and 65521 are odd and 2 apart, so H would be at least their product
     roster = admit(rt, roster, 4, 1, 65_519)?;
     // 0: without the period of 12, H is 8 × 65521
@@ -50,8 +50,8 @@ pub fn calls(rt: &impl Print) -> io::Result<()> {
     // 4: 65537 is no id, though it is 1 in 16 bits
     roster = retire(rt, roster, 65_537)?;
     // machine 2 3 100 78 with 5 5 5; jobs 2 1 65521 65521, 3 5 8 8, 7 1 2 2, 9 1 8 8
-    print::machine(rt, roster)?;
-    print::jobs(rt, roster)?;
+    print::machine(rt, &roster)?;
+    print::jobs(rt, &roster)?;
     // cycle 524168 work 655218: 8, 5 × 65521, 4 × 65521 and 65521
-    print::cycle(rt, roster)
+    print::cycle(rt, &roster)
 }

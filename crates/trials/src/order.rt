@@ -3,7 +3,6 @@
 use crate::by_hand::with_held;
 use crate::calls::{admit, admitted, open, opened, replace, retire};
 use crate::held::equal_jobs;
-use crate::print::text;
 use planner::Roster;
 use std::io;
 
@@ -39,24 +38,24 @@ pub fn refusals(rt: &impl Print) -> io::Result<()> {
 pub fn neighbours(rt: &impl Print) -> io::Result<()> {
     let zero = Roster::empty();
     let roster = opened(2, 3, 2, 3);
-    text(rt, b"7 before 12: ")?;
+    print!(rt; "7 before 12: ")?;
     open(rt, with_held(roster, 1), 2, 3, 2, 3)?;
-    text(rt, b"12 before 1: ")?;
+    print!(rt; "12 before 1: ")?;
     open(rt, roster, 0, 3, 2, 3)?;
-    text(rt, b"12 before 2: ")?;
+    print!(rt; "12 before 2: ")?;
     open(rt, roster, 2, 0, 2, 3)?;
-    text(rt, b"1 before 2: ")?;
+    print!(rt; "1 before 2: ")?;
     open(rt, zero, 0, 0, 2, 3)?;
-    text(rt, b"7 before 11: ")?;
+    print!(rt; "7 before 11: ")?;
     replace(rt, with_held(zero, 1), &[0, 5, 10])?;
-    text(rt, b"11 before 3: ")?;
+    print!(rt; "11 before 3: ")?;
     replace(rt, zero, &[0, 5, 9])?;
-    text(rt, b"7 before 11: ")?;
+    print!(rt; "7 before 11: ")?;
     retire(rt, with_held(zero, 1), 10)?;
-    text(rt, b"11 before 4: ")?;
+    print!(rt; "11 before 4: ")?;
     retire(rt, zero, 0)?;
     // 0 is on no roster
-    text(rt, b"4 before 14: ")?;
+    print!(rt; "4 before 14: ")?;
     retire(rt, roster, 0)?;
     Ok(())
 }
@@ -65,28 +64,28 @@ pub fn neighbours(rt: &impl Print) -> io::Result<()> {
 pub fn admissions(rt: &impl Print) -> io::Result<()> {
     let zero = Roster::empty();
     let roster = admitted(opened(1, 3, 2, 3), 10, 1, 4096);
-    text(rt, b"7 before 11: ")?;
+    print!(rt; "7 before 11: ")?;
     admit(rt, with_held(zero, 1), 20, 1, 4)?;
-    text(rt, b"11 before 4: ")?;
+    print!(rt; "11 before 4: ")?;
     admit(rt, zero, 0, 1, 4)?;
     // the id is there, with a C and with a T that is out of range
-    text(rt, b"4 before 13: ")?;
+    print!(rt; "4 before 13: ")?;
     admit(rt, roster, 10, 0, 4)?;
-    text(rt, b"4 before 13: ")?;
+    print!(rt; "4 before 13: ")?;
     admit(rt, roster, 10, 1, 65_536)?;
     // C exceeds T, and 4096 × 4097 is above the limit
-    text(rt, b"16 before 17: ")?;
+    print!(rt; "16 before 17: ")?;
     admit(rt, roster, 20, 4098, 4097)?;
     // 64 jobs of 1/4096
     let most = equal_jobs(roster, 64, 1, 4096);
-    text(rt, b"13 before 15: ")?;
+    print!(rt; "13 before 15: ")?;
     admit(rt, most, 10, 1, 4096)?;
     // H would be too long, and C exceeds T
-    text(rt, b"13 before 15, 16, 17: ")?;
+    print!(rt; "13 before 15, 16, 17: ")?;
     admit(rt, most, 640, 4098, 4097)?;
-    text(rt, b"15 before 16: ")?;
+    print!(rt; "15 before 16: ")?;
     admit(rt, most, 5, 1, 4097)?;
-    text(rt, b"15 before 17: ")?;
+    print!(rt; "15 before 17: ")?;
     admit(rt, most, 5, 2, 1)?;
     Ok(())
 }
