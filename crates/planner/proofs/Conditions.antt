@@ -4,7 +4,7 @@ use native.Mathlib.Omega.{arith}
 use mathlib.Core.Path.{◌≡◌, refl, sym, ap, subst, ◌∙◌}
 use mathlib.Core.Bool.{true, false}
 use mathlib.Core.List.{List}
-use Rattle.std.specs.Prelude.{Option, Some, None, Result, Ok, Err, is_err}
+use Rattle.std.specs.Prelude.{Option, Some, None, Ok, Err, is_err}
 use borrow.Author.Tests.{lt-ltb}
 use lib.ListN.{length, take}
 use Rattle.gmf.specs.declared.Machine.{Machine}
@@ -13,7 +13,6 @@ use Rattle.gmf.specs.Machine.{InRange}
 use Rattle.gmf.specs.Jobs.{JobInRange, Every, hyperperiod, hyperperiod_limit}
 use Rattle.gmf.proofs.Hyperperiod.{in_range_positive}
 use Rattle.workload.specs.declared.Totals.{Totals}
-use Rattle.workload.specs.declared.Unplanned.{Unplanned}
 use Rattle.workload.specs.declared.Unplanned.TheVariants as unplanned
 use Rattle.workload.specs.Load.{Verdict, load_of, judged}
 use Rattle.workload.specs.Claims.{Tells}

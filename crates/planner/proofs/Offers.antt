@@ -15,7 +15,6 @@ use Rattle.places.proofs.Results.{placing}
 use Rattle.ranges.specs.Ranges.{job_fits}
 use Rattle.ranges.proofs.Results.{ranging}
 use Rattle.workload.specs.declared.Totals.{Totals}
-use Rattle.workload.specs.declared.Unplanned.{Unplanned}
 use Rattle.workload.specs.declared.Unplanned.TheVariants as unplanned
 use Rattle.workload.specs.Load.{Verdict, totals, load_of, with_job, judged}
 use Rattle.workload.specs.Claims.{Tells}

@@ -101,14 +101,10 @@ impl Roster {
     pub fn inspect(&self) -> Condition
         ensures { result ≡ inspected self.now }
     {
-        let machine = self.machine;
-        let table = self.table;
-        let held = self.held;
-        let jobs = self.jobs;
-        if is_zero(machine, table, held, jobs) {
+        if is_zero(self.machine, &self.table, self.held, &self.jobs) {
             return Condition::Closed;
         }
-        if !in_shape(machine, table, held, jobs) {
+        if !in_shape(self.machine, &self.table, self.held, &self.jobs) {
             return Condition::Damaged;
         }
         let Some(totals) = load_of(&self.jobs[..self.held as usize]) else {
@@ -264,7 +260,8 @@ impl Roster {
         let Ok(at) = find(share.jobs, id as u16) else {
             return Err(Refusal::IdNotHeld);
         };
-        take_out(&mut self.jobs[..self.held as usize], at);
+        let held = self.held as usize;
+        take_out(&mut self.jobs[..held], at);
         self.held -= 1;
         Ok(())
     }

@@ -6,6 +6,7 @@ use borrow.Author.Rules.{rules}
 use lib.ListN.{length}
 use Rattle.std.proofs.lemmas.Result.{err_from_is_err_and}
 use Rattle.ranges.proofs.Results.{ranging}
+use Rattle.places.proofs.Parts.{taken_out_part}
 use Rattle.planner.specs.Claims.{IsSound}
 use Rattle.planner.proofs.Looking.{found_there, found_none}
 use Rattle.planner.proofs.Outcomes.{retire_11, retire_4}
@@ -48,3 +49,19 @@ overflow_sub-self c =
     let sound : IsSound c.args.self.now = (share_open _ _ c.in_ok-share.ensures entries places).0 in
     leave_some _ entries places sound _ (sym c.if-not-one_to.ensures) (found_there _ _ c.in_ok-share.ensures.jobs _ _ c.in-Ok.ensures).0
 
+
+pub slice_bounds-take_out-end : goal.slice_bounds-take_out-end
+slice_bounds-take_out-end c =
+    let entries : length c.args.self.now.table ≡ 32 = search rules in
+    let places : length c.args.self.now.jobs ≡ 64 = search rules in
+    let sound : IsSound c.args.self.now = (share_open _ _ c.in_ok-share.ensures entries places).0 in
+    sound.places
+
+pub returns : goal.returns
+returns c =
+    let entries : length c.args.self.now.table ≡ 32 = search rules in
+    let places : length c.args.self.now.jobs ≡ 64 = search rules in
+    let sound : IsSound c.args.self.now = (share_open _ _ c.in_ok-share.ensures entries places).0 in
+    let there = found_there _ _ c.in_ok-share.ensures.jobs _ _ c.in-Ok.ensures in
+    leave_out _ entries places sound _ (sym c.if-not-one_to.ensures) there.0 _ _ there.1
+    (taken_out_part c.args.self.now.jobs places c.args.self.now.held _ sound.places c.take_out.ensures)

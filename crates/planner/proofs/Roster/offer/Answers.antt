@@ -1,9 +1,13 @@
 -- `planner::Roster::offer` meets its contract.
+use Prim.Native.Nat.{ℕ, suc, ◌+◌, ◌<◌}
 use native.Mathlib.Omega.{arith}
 use mathlib.Core.Path.{◌≡◌, sym, ap, subst, ◌∙◌}
 use Rattle.places.specs.Places.{listed}
 use borrow.Author.Rules.{rules}
-use lib.ListN.{length}
+use mathlib.Core.List.{List, ◌∷◌, ◌++◌}
+use lib.ListN.{length, take, drop}
+use Rattle.gmf.specs.declared.Job.{Job}
+use Rattle.places.proofs.Parts.{put_in_part}
 use Rattle.std.proofs.lemmas.Result.{err_from_is_err_and}
 use Rattle.gmf.specs.Jobs.{JobInRange}
 use Rattle.ranges.proofs.Results.{ranging}
@@ -75,3 +79,20 @@ returns-in_default-with c =
     offer_long _ entries places open_at.0 _ _ _ _ new.0 _ new.1 (found_none _ _ c.in_ok-share.ensures.jobs _ _ c.in-Err.ensures).0 (omega (arith, held, c.if-held-ge-PLACES.false)) _ open_at.1 _
     c.with.ensures c.in_default-with.is
 
+-- What is put in among as many as the share has.
+put_in_held : (jobs : List Job) → length jobs ≡ 64 → (held at n : ℕ) → n ≡ held → held < 64 → (job : Job) (part : List Job)
+    → part ≡ take (length (take (n + 1) jobs)) (take at (take (n + 1) jobs) ++ job ∷ drop at (take (n + 1) jobs))
+    → part ++ drop (n + 1) jobs ≡ take 64 (take (suc held) (take at jobs ++ job ∷ drop at jobs) ++ drop (suc held) jobs)
+put_in_held jobs long held at n same room job part put = rw same (put_in_part jobs long held at job room (rw same at put))
+
+pub returns : goal.returns
+returns c =
+    let entries : length c.args.self.now.table ≡ 32 = search rules in
+    let places : length c.args.self.now.jobs ≡ 64 = search rules in
+    let held = share_count c.args.self.now c.in_ok-share.share c.in_ok-share.ensures entries places in
+    let open_at = share_open _ _ c.in_ok-share.ensures entries places in
+    let new = job_there _ _ _ _ _ c.in_ok-job.ensures in
+    let none = found_none _ _ c.in_ok-share.ensures.jobs _ _ c.in-Err.ensures in
+    offer_more _ entries places open_at.0 _ _ _ _ new.0 _ new.1 none.0 (omega (arith, held, c.if-held-ge-PLACES.false)) _ open_at.1 _ c.with.ensures _
+    c.in-Some.is _ _ none.1
+    (put_in_held _ places _ _ _ held (omega (arith, held, c.if-held-ge-PLACES.false)) _ _ c.put_in.ensures)
