@@ -1,11 +1,18 @@
 -- `frame_kinds::admit` meets its contract: the numbers are those of its fields' widths.
 use mathlib.Core.Path.{◌∙◌}
 use native.Mathlib.Omega.{arith}
+use Rattle.frame_kinds.proofs.Numbers.{pair_number}
 use Rattle.frame_kinds.proofs.Readings.{admit_right, admit_wrong}
 use Rattle.frame_kinds.proofs.admit.Goals as goal
 
-pub returns-then-rest-ne-ADMIT_BYTES : goal.returns-then-rest-ne-ADMIT_BYTES
-returns-then-rest-ne-ADMIT_BYTES c = c.alone.ensures ∙ admit_wrong _ c.if-rest-ne-ADMIT_BYTES.true
+pub returns-in_default : goal.returns-in_default
+returns-in_default c = c.alone.ensures ∙ admit_wrong _ c.in_default.ensures
 
 pub returns : goal.returns
-returns c = c.alone-2.ensures ∙ admit_right _ _ _ _ (omega arith) c.two.ensures c.two-2.ensures c.two-3.ensures
+returns c =
+    let pairs = c.in-Some.ensures in
+    c.alone-2.ensures
+    ∙ admit_right _ _ _ _ pairs.0
+    (pair_number _ 3 0 _ (omega arith) _ pairs.1 c.from_be_bytes.ensures)
+    (pair_number _ 3 1 _ (omega arith) _ pairs.1 c.from_be_bytes-2.ensures)
+    (pair_number _ 3 2 _ (omega arith) _ pairs.1 c.from_be_bytes-3.ensures)

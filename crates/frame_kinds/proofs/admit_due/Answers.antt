@@ -1,13 +1,19 @@
 -- `frame_kinds::admit_due` meets its contract: the numbers are those of its fields' widths.
 use mathlib.Core.Path.{◌∙◌}
 use native.Mathlib.Omega.{arith}
+use Rattle.frame_kinds.proofs.Numbers.{pair_number}
 use Rattle.frame_kinds.proofs.Readings.{admit_due_right, admit_due_wrong}
 use Rattle.frame_kinds.proofs.admit_due.Goals as goal
 
-pub returns-then-rest-ne-ADMIT_DUE_BYTES : goal.returns-then-rest-ne-ADMIT_DUE_BYTES
-returns-then-rest-ne-ADMIT_DUE_BYTES c = c.alone.ensures ∙ admit_due_wrong _ c.if-rest-ne-ADMIT_DUE_BYTES.true
+pub returns-in_default : goal.returns-in_default
+returns-in_default c = c.alone.ensures ∙ admit_due_wrong _ c.in_default.ensures
 
 pub returns : goal.returns
 returns c =
+    let pairs = c.in-Some.ensures in
     c.alone-2.ensures
-    ∙ admit_due_right _ _ _ _ _ (omega arith) c.two.ensures c.two-2.ensures c.two-3.ensures c.two-4.ensures
+    ∙ admit_due_right _ _ _ _ _ pairs.0
+    (pair_number _ 4 0 _ (omega arith) _ pairs.1 c.from_be_bytes.ensures)
+    (pair_number _ 4 1 _ (omega arith) _ pairs.1 c.from_be_bytes-2.ensures)
+    (pair_number _ 4 2 _ (omega arith) _ pairs.1 c.from_be_bytes-3.ensures)
+    (pair_number _ 4 3 _ (omega arith) _ pairs.1 c.from_be_bytes-4.ensures)

@@ -1,11 +1,22 @@
 -- `frame_kinds::machine` meets its contract: the numbers are those of its fields' widths.
 use mathlib.Core.Path.{refl, ◌∙◌}
 use native.Mathlib.Omega.{arith}
-use Rattle.frame_kinds.proofs.Readings.{machine_right, machine_wrong}
+use Rattle.frame_kinds.proofs.Numbers.{pair_number}
+use Rattle.frame_kinds.proofs.Readings.{speeds_length, machine_right, machine_wrong}
 use Rattle.frame_kinds.proofs.machine.Goals as goal
 
-pub returns-then-rest-ne-MACHINE_BYTES : goal.returns-then-rest-ne-MACHINE_BYTES
-returns-then-rest-ne-MACHINE_BYTES c = c.alone.ensures ∙ machine_wrong _ c.if-rest-ne-MACHINE_BYTES.true
+pub returns-in_default : goal.returns-in_default
+returns-in_default c = c.alone.ensures ∙ machine_wrong _ (λ e. omega arith)
+
+pub returns-in_default-pairs : goal.returns-in_default-pairs
+returns-in_default-pairs c =
+    c.alone-in_default-pairs.ensures
+    ∙ machine_wrong _ (λ e. c.in_default-pairs.ensures (omega (arith, speeds_length c.args.rest.now _ refl (omega arith))))
 
 pub returns : goal.returns
-returns c = c.alone-2.ensures ∙ machine_right _ _ _ _ _ (omega arith) refl refl c.two.ensures c.two-2.ensures
+returns c =
+    let pairs = c.in-Some.ensures in
+    c.alone-2.ensures
+    ∙ machine_right _ _ refl _ _ _ _ (omega arith) pairs.0 refl refl
+    (pair_number _ 2 0 _ (omega arith) _ pairs.1 c.from_be_bytes.ensures)
+    (pair_number _ 2 1 _ (omega arith) _ pairs.1 c.from_be_bytes-2.ensures)

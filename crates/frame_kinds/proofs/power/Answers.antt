@@ -1,17 +1,34 @@
 -- `frame_kinds::power` meets its contract: 4 to 128 bytes in fours.
-use mathlib.Core.Path.{refl, ◌∙◌}
+use mathlib.Core.Path.{◌≡◌, refl, ◌∙◌}
+use mathlib.Core.Logic.{⊎_elim}
+use lib.ListN.{length, length-set}
 use native.Mathlib.Omega.{arith}
+use Rattle.frame_kinds.specs.Frames.{numbers_from}
+use Rattle.frame_kinds.proofs.Numbers.{four_number, filled_more}
 use Rattle.frame_kinds.proofs.Readings.{power_wrong, power_right}
 use Rattle.frame_kinds.proofs.power.Goals as goal
 
-pub returns-then-n-lt4 : goal.returns-then-n-lt4
-returns-then-n-lt4 c = c.alone.ensures ∙ power_wrong _ (λ p. omega arith)
+pub returns-in_default : goal.returns-in_default
+returns-in_default c = c.alone.ensures ∙ power_wrong _ (λ p. omega (arith, p.2))
 
-pub returns-then-n-gt128 : goal.returns-then-n-gt128
-returns-then-n-gt128 c = c.alone-then-n-gt128.ensures ∙ power_wrong _ (λ p. omega arith)
+pub returns-then-count-eq0 : goal.returns-then-count-eq0
+returns-then-count-eq0 c =
+    c.alone-then-count-eq0.ensures
+    ∙ power_wrong _ (λ p. ⊎_elim (λ none. omega (arith, p.0)) (λ many. omega (arith, p.1, many.1)) c.then-count-eq0.either)
 
-pub returns-then-n-ne0 : goal.returns-then-n-ne0
-returns-then-n-ne0 c = c.alone-then-n-ne0.ensures ∙ power_wrong _ (λ p. omega (arith, c.if-n-ne0.true, p.2))
+pub loop-i-init : goal.loop-i-init
+unfolding numbers_from
+loop-i-init c = (refl, refl)
+
+pub loop-i-preserved : goal.loop-i-preserved
+loop-i-preserved c =
+    let l = c.loop-i in (
+      simp length-set (omega arith),
+      filled_more _ 4 l.values l.i _ (omega arith) l.invariant.1
+          (four_number _ _ l.i _ (omega arith) _ c.as_chunks.ensures.front c.from_be_bytes.ensures),
+    )
 
 pub returns : goal.returns
-returns c = power_right _ _ c.values_of-values.result (omega arith) (omega arith) (omega arith) refl c.values_of-values.ensures
+returns c =
+    let all : length c.as_chunks.result.0.now ≡ c.loop-i.i = omega arith in
+    power_right _ _ _ (omega arith) (omega arith) (omega arith) (omega arith) (rw all c.loop-i.invariant.1)

@@ -7,8 +7,8 @@ use Rattle.frame_kinds.specs.Frames.{kind_of, said_as, said_with, reading_of}
 use Rattle.frame_kinds.proofs.Readings.{no_bytes, some_bytes, unknown_kind}
 use Rattle.frame_kinds.proofs.read_bytes.Goals as goal
 
-pub returns-then-bytes-eq0 : goal.returns-then-bytes-eq0
-returns-then-bytes-eq0 c = c.alone.ensures ∙ no_bytes _ (omega arith)
+pub returns-in_default : goal.returns-in_default
+returns-in_default c = c.alone.ensures ∙ no_bytes _ (omega arith)
 
 pub returns-in-1 : goal.returns-in-1
 returns-in-1 c = c.machine.ensures ∙ ap reading_of (some_bytes _ 1 (omega arith) c.in-1.is)
@@ -22,12 +22,12 @@ returns-in-3 c = c.admit.ensures ∙ ap reading_of (some_bytes _ 3 (omega arith)
 pub returns-in-4 : goal.returns-in-4
 returns-in-4 c = c.retire.ensures ∙ ap reading_of (some_bytes _ 4 (omega arith) c.in-4.is)
 
+pub returns-in-6 : goal.returns-in-6
+returns-in-6 c = c.admit_due.ensures ∙ ap reading_of (some_bytes _ 6 (omega arith) c.in-6.is)
+
 pub returns-in-5 : goal.returns-in-5
 unfolding kind_of
 returns-in-5 c = c.wanted.ensures 5 refl ∙ ap reading_of (some_bytes _ 5 (omega arith) c.in-5.is)
-
-pub returns-in-6 : goal.returns-in-6
-returns-in-6 c = c.admit_due.ensures ∙ ap reading_of (some_bytes _ 6 (omega arith) c.in-6.is)
 
 pub returns-in-7 : goal.returns-in-7
 unfolding kind_of
@@ -38,7 +38,4 @@ returns-in-0 c =
     let frame = c.args.bytes.now in
     let kind = get_or frame 0 0 in
     let same : reading_of (said_as kind _) ≡ reading_of (said_with frame) = ap reading_of (some_bytes frame kind (omega arith) refl) in
-    c.alone-in-0.ensures
-    ∙ unknown_kind kind _
-    (search rules)
-    ∙ same
+    c.alone-in-0.ensures ∙ unknown_kind kind _ (search rules) ∙ same

@@ -1,37 +1,45 @@
 -- `frame_reader::decode` meets its contract: the text is what stands in the buffer and then the text of the rest of the line.
+use mathlib.Core.Path.{◌≡◌, refl, ap, ◌∙◌}
+use lib.ListN.{length}
+use Prim.Native.Nat.{◌+◌, ◌*◌}
 use native.Mathlib.Omega.{arith}
-use Rattle.frame_reader.proofs.Decoding.{begin, more, high_digit_wrong, low_digit_wrong, ended, not_closed, closed}
+use borrow.Author.Rules.{rules}
+use Rattle.hexadecimal.specs.Text.{value_of}
+use Rattle.frame_reader.proofs.Decoding.{none_right, cut_length, open_wrong, odd_wrong, digit_at, digit_wrong, begin, more, closed, last_at}
 use Rattle.frame_reader.proofs.decode.Goals as goal
 
+pub returns-in_err-last : goal.returns-in_err-last
+returns-in_err-last c = rw c.from_residual.ensures (none_right _ (λ frame r. omega (arith, r.size, c.in_err-last.ensures.cases)))
+
+pub returns-then-last-ne10 : goal.returns-then-last-ne10
+returns-then-last-ne10 c = open_wrong _ _ _ c.in_ok-last.ensures.cases.0 c.if-last-ne10.true
+
+pub returns-in_default : goal.returns-in_default
+returns-in_default c = odd_wrong _ _ _ c.in_ok-last.ensures.cases.0 (omega (arith, c.as_chunks.ensures.back_len))
+
 pub loop-i-init : goal.loop-i-init
-loop-i-init c = begin _ _ c.requires.1
+loop-i-init c = begin _ _ (search rules)
 
 pub returns-then-high-gt15 : goal.returns-then-high-gt15
-returns-then-high-gt15 c =
-    let l = c.loop-i in
-    high_digit_wrong _ l.bytes l.i l.count l.invariant c.value_of-high.result (omega arith) c.value_of-high.ensures (omega arith)
+returns-then-high-gt15 c = digit_wrong _ _ _ c.in_ok-last.ensures.cases.0 _ c.loop-i.i c.as_chunks.ensures.front (omega arith) 0 (omega arith) (omega (arith, c.value_of-high.ensures))
 
 pub returns-then-low-gt15 : goal.returns-then-low-gt15
-returns-then-low-gt15 c =
-    let l = c.loop-i in
-    low_digit_wrong _ l.bytes l.i l.count l.invariant c.value_of-high.result c.value_of-low.result (omega arith) c.value_of-high.ensures c.value_of-low.ensures (omega arith) (omega arith)
+returns-then-low-gt15 c = digit_wrong _ _ _ c.in_ok-last.ensures.cases.0 _ c.loop-i.i c.as_chunks.ensures.front (omega arith) 1 (omega arith) (omega (arith, c.value_of-low.ensures))
 
 pub loop-i-preserved : goal.loop-i-preserved
 loop-i-preserved c =
     let l = c.loop-i in
-    more _ l.bytes l.i l.count l.invariant c.value_of-high.result c.value_of-low.result _ (omega arith) (omega arith) c.value_of-high.ensures c.value_of-low.ensures (omega arith) (omega arith) (omega arith)
-
-pub returns-then-line-i : goal.returns-then-line-i
-returns-then-line-i c =
-    let l = c.loop-i in
-    ended _ l.bytes l.i l.count l.invariant (omega arith)
-
-pub returns-then-line-i-eq10 : goal.returns-then-line-i-eq10
-returns-then-line-i-eq10 c =
-    let l = c.loop-i in
-    closed _ l.bytes l.i l.count l.invariant (omega arith) (omega arith) (omega arith)
+    let cut = c.in_ok-last.ensures.cases.0 in
+    let size = cut_length _ _ _ cut in
+    let front = c.as_chunks.ensures.front in
+    more _ _ l.i l.invariant c.value_of-high.result c.value_of-low.result _ (omega arith) (omega arith)
+    (c.value_of-high.ensures ∙ ap value_of (digit_at _ _ _ cut _ l.i front (omega arith) 0 (2 * l.i) (omega arith) (omega arith)))
+    (c.value_of-low.ensures ∙ ap value_of (digit_at _ _ _ cut _ l.i front (omega arith) 1 (2 * l.i + 1) (omega arith) refl))
+    (omega arith) (omega arith) (omega arith)
 
 pub returns : goal.returns
 returns c =
-    let l = c.loop-i in
-    not_closed _ l.bytes l.i l.count l.invariant (omega arith) c.if-line-i-eq10.false
+    let cut = c.in_ok-last.ensures.cases.0 in
+    let size = cut_length _ _ _ cut in
+    let all : length c.as_chunks.result.0.now ≡ c.loop-i.i = omega arith in
+    rw all (closed _ _ c.loop-i.i c.loop-i.invariant (omega arith) (last_at _ _ _ cut _ (omega arith) ∙ c.if-last-ne10.false))
