@@ -8,6 +8,7 @@ use std::io;
 fn read(rt: &impl Print, sheet: &[u8]) -> io::Result<()> {
     println!(rt; "sheet")?;
     let mut start = 0;
+    // No `split_inclusive`: where `line_end` finds a line's end is what is tried here.
     while start < sheet.len() {
         let end = line_end(sheet, start);
         println!(rt;

@@ -23,6 +23,7 @@ pub fn read_input<R: Read>(input: &mut R, sheet: &mut [u8]) -> io::Result<usize>
     ensures end { IfOk result (λ n. n < length sheet.new → IsAtEnd (R.remaining input.new)) }
 {
     let mut done = 0;
+    // A read says how much it gave, so there are no items to go over.
     while done < sheet.len() {
         let more = input.read(&mut sheet[done..])?;
         done += more;

@@ -8,6 +8,7 @@ use inputs::{read_input, room};
 fn answer(rt: &impl Print, sheet: &[u8]) {
     let mut page = room::<65536>();
     let mut desk = Desk::start();
+    // The desk says how far it has come, so there are no items to go over.
     while desk.at < sheet.len() {
         let filled = desk.fill(sheet, &mut page);
         let end = filled.end;
