@@ -4,28 +4,20 @@ use mathlib.Core.Path.{◌≡◌, refl, sym, ap, subst, ◌∙◌}
 use mathlib.Core.Bool.{Bool, true, false}
 use mathlib.Core.Logic.{inl}
 use mathlib.Core.List.{List}
+use Rattle.std.specs.Prelude.{Result, Ok, Err}
 use lib.ListN.{length, take}
 use Rattle.workload.specs.declared.Totals.{Totals}
 use Rattle.planner.specs.declared.Roster.{Roster}
+use Rattle.planner.specs.declared.Condition.{Condition}
 use Rattle.planner.specs.declared.Condition.TheVariants as condition
-use Rattle.refusals.specs.declared.Answer.TheVariants.{Refused}
 use Rattle.refusals.specs.declared.Refusal.{Refusal}
 use Rattle.refusals.specs.declared.Refusal.TheVariants.{Damaged, NoMachine}
 use Rattle.planner.specs.Model.{Model, Closed, Opened}
-use Rattle.planner.specs.Roster.{model_of, roster_of, well_formed, inspected}
-use Rattle.refusals.specs.Numbers.{number_of}
+use Rattle.planner.specs.Roster.{model_of, roster_of, well_formed, inspected, totals_found}
 use Rattle.planner.specs.Claims.{InspectRule, Kept}
 use Rattle.planner.proofs.Results.{planner}
-use Rattle.filing.specs.declared.Filing.{Filing}
 use Rattle.filing.specs.Plans.{Filed, filed_by, unwritten, reply_on}
 use Rattle.filing.specs.Claims.{ReplyRule}
-
--- The right refusal, and nothing written.
-refused_as : {given : Refusal} (right : Refusal) (result : Filing) → result ≡ record { answer = Refused given; count = 0 } → given ≡ right
-    → (page : List ℕ) → filed_by result page ≡ unwritten right page
-unfolding number_of
-refused_as right result e f page =
-    ap (λ (q : Filing). filed_by q page) e ∙ ap (λ (x : Refusal). unwritten x page) f
 
 pub unwritten_rule : (refusal : Refusal) (page : List ℕ) (place : ℕ) → ReplyRule (unwritten refusal page) page place
 unwritten_rule refusal page place = record { fits = inl refl; same_length = refl; as_lent = λ n. refl }
@@ -45,15 +37,22 @@ module _ (on : Model → List ℕ → ℕ → Filed) where
     rule = planner.inspects r entries places
 
     module _ (page : List ℕ) (place : ℕ) where
-      pub reply_damaged : inspected r ≡ condition.Damaged → {given : Refusal} (result : Filing)
-          → result ≡ record { answer = Refused given; count = 0 } → given ≡ Damaged → filed_by result page ≡ reply_on on r page place
-      reply_damaged e result f g = refused_as Damaged result f g page ∙ sym (damaged r (rule.damaged e) page place)
-
-      pub reply_closed : on Closed page place ≡ unwritten NoMachine page → inspected r ≡ condition.Closed → {given : Refusal} (result : Filing)
-          → result ≡ record { answer = Refused given; count = 0 } → given ≡ NoMachine → filed_by result page ≡ reply_on on r page place
-      reply_closed none e result f g =
-          refused_as NoMachine result f g page
-          ∙ sym (well r (rule.closed e).0 page place ∙ ap (λ (m : Model). on m page place) (rule.closed e).1 ∙ none)
+      pub reply_untotalled : on Closed page place ≡ unwritten NoMachine page → (refusal : Refusal) → Err refusal ≡ totals_found (inspected r)
+          → filed_by (Err refusal) page ≡ reply_on on r page place
+      unfolding totals_found
+      reply_untotalled none refusal e = go (inspected r) refl
+        where
+          go : (c : Condition) → inspected r ≡ c → filed_by (Err refusal) page ≡ reply_on on r page place
+          go condition.Damaged f =
+              let z : ◌≡◌ {A = Result Totals Refusal} (Err refusal) (Err Damaged) = e ∙ ap totals_found f in
+              let same : refusal ≡ Damaged = cc in
+              ap (λ (x : Refusal). unwritten x page) same ∙ sym (damaged r (rule.damaged f) page place)
+          go condition.Closed f =
+              let z : ◌≡◌ {A = Result Totals Refusal} (Err refusal) (Err NoMachine) = e ∙ ap totals_found f in
+              let same : refusal ≡ NoMachine = cc in
+              ap (λ (x : Refusal). unwritten x page) same
+              ∙ sym (well r (rule.closed f).0 page place ∙ ap (λ (m : Model). on m page place) (rule.closed f).1 ∙ none)
+          go (condition.Open t) f = let z : Err refusal ≡ Ok t = e ∙ ap totals_found f in cc
 
       pub reply_open : (t : Totals) → inspected r ≡ condition.Open t
           → on (Opened r.machine (take r.machine.levels r.table) (take r.held r.jobs)) page place ≡ reply_on on r page place

@@ -3,7 +3,9 @@ use Prim.Native.Nat.{ℕ, zero, suc, ◌+◌, ◌-◌, ◌≤◌, ◌<◌}
 use native.Mathlib.Decide.{dec_lt}
 use native.Mathlib.Omega.{arith}
 use mathlib.Core.Path.{◌≡◌, refl, sym, ap, ◌∙◌}
+use mathlib.Core.Bool.{true}
 use mathlib.Core.List.{List, ◌++◌}
+use Rattle.std.specs.Prelude.{Option, Some, is_some}
 use lib.ListN.{length, take, get_or, replicate, take-append-drop, length-append, length-replicate}
 use lib.Seq.{length-take-le, take-append_seam, get_or-take, get_or-drop}
 use Rattle.gmf.specs.declared.Machine.{Machine}
@@ -18,7 +20,7 @@ use Rattle.gmf.proofs.Results.{method}
 use Rattle.hexadecimal.specs.Text.{line_of}
 use Rattle.frame_writer.specs.Frames.{plan_bytes}
 use Rattle.growing.specs.declared.Plan.{Plan}
-use Rattle.growing.specs.Plan.{plan_from}
+use Rattle.growing.specs.Plan.{plan_from, planned}
 use Rattle.planner.specs.declared.Roster.{Roster}
 use Rattle.planner.specs.Claims.{IsSound}
 use Rattle.filing.specs.Plans.{put_on, plan_line, filed_as, filed_on}
@@ -47,7 +49,7 @@ same_line : (a b c d e f g h : ℕ) (u v : List ℕ) → a ≡ b → c ≡ d →
     → line_of (plan_bytes a c e g u) ≡ line_of (plan_bytes b d f h v)
 same_line a b c d e f g h u v i j k l m = cc
 
-module _ (r : Roster) (s : IsSound r) (p : Plan) where
+module _ (r : Roster) (s : IsSound r) where
   abbrev M : Machine
   M = r.machine
 
@@ -60,9 +62,18 @@ module _ (r : Roster) (s : IsSound r) (p : Plan) where
   in_range_law : InRange M
   in_range_law = s.rules.machine_range
 
-  module _ (p-is : p ≡ plan_from (hyperperiod jobs) (plan_of M jobs)) where
-    pub found : (plan : List ℕ) × (raises : ℕ) × (plan_of M jobs ≡ Grown plan raises)
-    found = grown M in_range_law jobs s.rules.some_plan
+  pub found : (plan : List ℕ) × (raises : ℕ) × (plan_of M jobs ≡ Grown plan raises)
+  found = grown M in_range_law jobs s.rules.some_plan
+
+  -- So that what growing answers is no None.
+  pub planned_is : planned M jobs ≡ plan_from (hyperperiod jobs) (Grown found.0 found.1)
+  planned_is = ap (plan_from (hyperperiod jobs)) found.2
+
+  pub some_plan : is_some (planned M jobs) ≡ true
+  unfolding plan_from
+  some_plan = ap is_some planned_is
+
+  module _ (p : Plan) (p-is : Some p ≡ planned M jobs) where
 
     abbrev plan : List ℕ
     plan = found.0
@@ -73,8 +84,12 @@ module _ (r : Roster) (s : IsSound r) (p : Plan) where
     least : Least M (hyperperiod jobs) (works jobs) plan raises
     least = (plans M in_range_law jobs).found plan raises found.2
 
-    is_from : p ≡ plan_from (hyperperiod jobs) (Grown plan raises)
-    is_from = p-is ∙ ap (plan_from (hyperperiod jobs)) found.2
+    is_from : p ≡ record { hyperperiod = hyperperiod jobs; raises = raises; levels = plan ++ replicate (32 - length plan) 0 }
+    unfolding plan_from
+    is_from =
+        let z : ◌≡◌ {A = Option Plan} (Some p) (Some (record { hyperperiod = hyperperiod jobs; raises = raises; levels = plan ++ replicate (32 - length plan) 0 }))
+        = p-is ∙ planned_is in
+        cc
 
     pub levels_are : take M.processors p.levels ≡ plan
     unfolding plan_from
@@ -89,10 +104,11 @@ module _ (r : Roster) (s : IsSound r) (p : Plan) where
         ap (λ (q : Plan). length q.levels) is_from
         ∙ simp (length-append, length-replicate) (omega (arith, least.is_plan.size, in_range_law.processors))
 
-    pub level_range : (k : ℕ) → k < M.processors → level p.levels k < 32
-    level_range k h =
-        let same : level p.levels k ≡ level plan k = sym (get_or-take M.processors p.levels k 0 h) ∙ ap (λ (q : List ℕ). level q k) levels_are in
-        omega (arith, least.is_plan.within k h, in_range_law.levels)
+    pub level_range : (levels : List ℕ) → levels ≡ take M.processors p.levels → (k : ℕ) → k < length levels → level levels k < 32
+    level_range levels l-is k h =
+        let same : levels ≡ plan = l-is ∙ levels_are in
+        let inside : k < M.processors = omega (arith, ap length same, least.is_plan.size) in
+        rw same (omega (arith, least.is_plan.within k inside, in_range_law.levels))
 
     table_is : r.table ≡ table ++ replicate (32 - M.levels) 0
     table_is = sym (take-append-drop M.levels r.table) ∙ ap (λ (q : List ℕ). table ++ q) s.unused_entries

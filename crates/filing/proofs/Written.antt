@@ -2,7 +2,8 @@
 use Prim.Native.Nat.{ℕ, ◌+◌, ◌≤◌}
 use native.Mathlib.Decide.{dec_le}
 use native.Mathlib.Omega.{arith}
-use mathlib.Core.Path.{◌≡◌, sym, ap, ◌∙◌}
+use Rattle.std.specs.Prelude.{Result, Ok, Err, is_err}
+use mathlib.Core.Path.{◌≡◌, refl, sym, ap, ◌∙◌}
 use mathlib.Core.Bool.{true, false}
 use mathlib.Core.Logic.{◌⊎◌, inl, inr}
 use mathlib.Core.List.{List, ◌++◌}
@@ -13,15 +14,13 @@ use Rattle.gmf.specs.declared.Job.{Job}
 use Rattle.gmf.specs.Jobs.{hyperperiod}
 use Rattle.gmf.specs.Power.{total}
 use Rattle.hexadecimal.proofs.Results.{hexadecimal}
-use Rattle.line_writer.specs.declared.Placing.{Placing}
-use Rattle.line_writer.specs.declared.Placing.TheVariants.{Written, NoRoom}
+use Rattle.line_writer.specs.declared.NoRoom.{NoRoom}
 use Rattle.frame_writer.specs.Frames.{plan_bytes}
 use Rattle.line_writer.specs.Page.{Reply, answered, written}
 use Rattle.line_writer.specs.Page as page
 use Rattle.line_writer.proofs.Results.{lining}
-use Rattle.refusals.specs.declared.Answer.TheVariants.{Accepted, Refused}
 use Rattle.refusals.specs.declared.Refusal.TheVariants as refusal
-use Rattle.refusals.specs.Numbers.{refusal_number, number_of}
+use Rattle.refusals.specs.Numbers.{refusal_number}
 use Rattle.filing.specs.Plans.{Filed, filed_by, put_on, plan_line}
 use Rattle.filing.specs.Claims.{frame_length, ReplyRule}
 
@@ -35,20 +34,28 @@ module _ (p : List ℕ) (place : ℕ) (line : List ℕ) where
       → reply ≡ written p place line
   put_at e f g h = e ∙ cc
 
-  pub put_written : {placing : Placing} (exit : List ℕ) (n : ℕ) → answered placing exit ≡ written p place line → placing ≡ Written → n ≡ length line
-      → filed_by record { answer = Accepted; count = n } exit ≡ put_on p place line
-  unfolding put_on page.number_of number_of
-  put_written exit n e w size =
-      ap (λ (k : ℕ). record { number = 0; page = exit; count = k }) size
-      ∙ ap (λ (q : Placing). filed_with (answered q exit) line) (sym w)
-      ∙ ap (λ (reply : Reply). filed_with reply line) e
+  pub put_written : {answer : Result (Unit {0}) NoRoom} (exit : List ℕ) (n : ℕ) → answered answer exit ≡ written p place line → is_err answer ≡ false
+      → n ≡ length line → filed_by (Ok n) exit ≡ put_on p place line
+  unfolding put_on page.number_of
+  put_written {answer} exit n e w size = go answer refl
+    where
+      go : (a : Result (Unit {0}) NoRoom) → answer ≡ a → filed_by (Ok n) exit ≡ put_on p place line
+      go (Ok done) f =
+          ap (λ (k : ℕ). record { number = 0; page = exit; count = k }) size
+          ∙ ap (λ (q : Result (Unit {0}) NoRoom). filed_with (answered q exit) line) (sym f)
+          ∙ ap (λ (reply : Reply). filed_with reply line) e
+      go (Err none) f = let z : true ≡ false = sym (ap is_err f) ∙ w in cc
 
-  pub put_none : {placing : Placing} (exit : List ℕ) → answered placing exit ≡ written p place line → placing ≡ NoRoom
-      → filed_by record { answer = Refused refusal.NoRoom; count = 0 } exit ≡ put_on p place line
-  unfolding put_on page.number_of number_of refusal_number
-  put_none exit e w =
-      ap (λ (q : Placing). filed_with (answered q exit) line) (sym w)
-      ∙ ap (λ (reply : Reply). filed_with reply line) e
+  pub put_none : {answer : Result (Unit {0}) NoRoom} (exit : List ℕ) → answered answer exit ≡ written p place line → is_err answer ≡ true
+      → filed_by (Err refusal.NoRoom) exit ≡ put_on p place line
+  unfolding put_on page.number_of refusal_number
+  put_none {answer} exit e w = go answer refl
+    where
+      go : (a : Result (Unit {0}) NoRoom) → answer ≡ a → filed_by (Err refusal.NoRoom) exit ≡ put_on p place line
+      go (Ok done) f = let z : false ≡ true = sym (ap is_err f) ∙ w in cc
+      go (Err none) f =
+          ap (λ (q : Result (Unit {0}) NoRoom). filed_with (answered q exit) line) (sym f)
+          ∙ ap (λ (reply : Reply). filed_with reply line) e
 
   pub put_room : place + length line ≤ length p
       → put_on p place line ≡ record { number = 0; page = take place p ++ (line ++ drop (place + length line) p); count = length line }

@@ -135,11 +135,11 @@ module _ (r : Roster) where
       go (condition.Open u) f = let z : ◌≡◌ {A = Result Totals Refusal} (Ok t) (Ok u) = e ∙ ap totals_found f in cc
 
   -- What is planned for on a roster is that of a sound one.
-  pub share_open : (share : Share) → IsShareOf r share → length r.table ≡ 32 → length r.jobs ≡ 64 → IsSound r × (share.totals ≡ totals (take r.held r.jobs))
-  share_open share s entries places = is_open r share.totals entries places (totalled share.totals s.totals)
+  pub share_open : (share : Share) → IsShareOf r share → IsSound r × (share.totals ≡ totals (take r.held r.jobs))
+  share_open share s = is_open r share.totals s.entries s.places (totalled share.totals s.totals)
 
-  pub share_count : (share : Share) → IsShareOf r share → length r.table ≡ 32 → length r.jobs ≡ 64 → length share.jobs.now ≡ r.held
-  share_count share s entries places = ap length s.jobs ∙ length-take-le r.held r.jobs (omega (arith, (share_open share s entries places).0.places))
+  pub share_count : (share : Share) → IsShareOf r share → length share.jobs.now ≡ r.held
+  share_count share s = ap length s.jobs ∙ length-take-le r.held r.jobs (omega (arith, (share_open share s).0.places, s.places))
 
   pub untotalled : (refusal : Refusal) (call : Call) → Err refusal ≡ totals_found (inspected r) → step Closed call ≡ refused NoMachine
       → record { answer = Err refusal; roster = r } ≡ reply_to r call

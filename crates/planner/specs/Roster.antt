@@ -66,8 +66,10 @@ totals_found condition.Damaged = Err Damaged
 totals_found condition.Closed = Err NoMachine
 totals_found (condition.Open t) = Ok t
 
--- What is planned for on such a roster: its machine and the jobs held, with their totals.
+-- What is planned for on such a roster, which has 32 entries and 64 places: its machine and the jobs held, with their totals.
 pub record IsShareOf (r : Roster) (share : Share) : Type 0 where
+  pub entries : length r.table ≡ 32
+  pub places : length r.jobs ≡ 64
   pub totals : Ok share.totals ≡ totals_found (inspected r)
   pub machine : share.machine ≡ r.machine
   pub jobs : share.jobs.now ≡ take r.held r.jobs

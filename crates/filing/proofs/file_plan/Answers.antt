@@ -1,39 +1,88 @@
 -- `filing::file_plan` meets its contract.
-use mathlib.Core.Path.{◌≡◌, refl, sym, ◌∙◌}
+use Prim.Native.Nat.{ℕ}
+use native.Mathlib.Omega.{arith}
+use mathlib.Core.Path.{◌≡◌, refl, sym, ap, ap₂, ◌∙◌}
+use mathlib.Core.List.{List}
 use borrow.Author.Rules.{rules}
-use lib.ListN.{length}
+use lib.ListN.{length, take}
+use Rattle.std.specs.Prelude.{Some, is_some}
+use Rattle.std.proofs.lemmas.Result.{err_from_is_err_and}
+use Rattle.gmf.specs.declared.Machine.{Machine}
+use Rattle.gmf.specs.declared.Job.{Job}
+use Rattle.gmf.specs.Power.{total}
+use Rattle.growing.specs.Plan.{planned}
+use Rattle.planner.specs.Claims.{IsSound}
+use Rattle.planner.proofs.Replies.{share_open, totalled}
 use Rattle.filing.specs.Plans.{filed, plan_reply}
-use Rattle.filing.proofs.Replies.{rule, reply_damaged, reply_closed, reply_open}
+use Rattle.filing.specs.Claims.{frame_length}
+use Rattle.filing.proofs.Replies.{reply_untotalled, reply_open}
+use Rattle.filing.proofs.Written.{put_at, put_written, put_none, line_size}
+use Rattle.filing.proofs.Sound.{some_plan, level_range, power_range, line_is, filed_is, size_is, found}
 use Rattle.filing.proofs.file_plan.Goals as goal
 
-pub file-requires : goal.file-requires
-file-requires c =
-    let entries : length c.args.roster.table ≡ 32 = search rules in
-    let places : length c.args.roster.jobs ≡ 64 = search rules in
-    let e = sym c.inspect-condition.ensures ∙ c.in-Open.is in
-    ((rule filed c.args.roster entries places).open_sound _ e, (rule filed c.args.roster entries places).open_totals _ e)
-
-pub returns-in-Damaged : goal.returns-in-Damaged
-unfolding plan_reply
-returns-in-Damaged c =
-    let entries : length c.args.roster.table ≡ 32 = search rules in
-    let places : length c.args.roster.jobs ≡ 64 = search rules in
-    reply_damaged filed c.args.roster entries places c.args.page.now c.args.place
-    (sym c.inspect-condition.ensures ∙ c.in-Damaged.is) _ c.unfiled.ensures refl
-
-pub returns-in-Closed : goal.returns-in-Closed
+pub returns-in_err-share : goal.returns-in_err-share
 unfolding plan_reply filed
-returns-in-Closed c =
-    let entries : length c.args.roster.table ≡ 32 = search rules in
-    let places : length c.args.roster.jobs ≡ 64 = search rules in
-    reply_closed filed c.args.roster entries places c.args.page.now c.args.place refl
-    (sym c.inspect-condition.ensures ∙ c.in-Closed.is) _ c.unfiled-in-Closed.ensures refl
+returns-in_err-share c =
+    let entries : length c.args.roster.now.table ≡ 32 = search rules in
+    let places : length c.args.roster.now.jobs ≡ 64 = search rules in
+    let p = err_from_is_err_and c.from_residual.result c.from_residual.ensures.1 in
+    rw (p.1, p.2) (reply_untotalled filed c.args.roster.now entries places c.args.page.now c.args.place refl _ c.in_err-share.ensures)
 
-pub returns-in-Open : goal.returns-in-Open
+pub unwrap-plan-requires : goal.unwrap-plan-requires
+unwrap-plan-requires c =
+    let entries : length c.args.roster.now.table ≡ 32 = search rules in
+    let places : length c.args.roster.now.jobs ≡ 64 = search rules in
+    let sound : IsSound c.args.roster.now = (share_open _ _ c.in_ok-share.ensures entries places).0 in
+    ap is_some (c.grow.ensures ∙ ap₂ planned c.in_ok-share.ensures.machine c.in_ok-share.ensures.jobs) ∙ some_plan c.args.roster.now sound
+
+pub total_power-power-requires-clause-levels_bound : goal.total_power-power-requires-clause-levels_bound
+total_power-power-requires-clause-levels_bound c =
+    let entries : length c.args.roster.now.table ≡ 32 = search rules in
+    let places : length c.args.roster.now.jobs ≡ 64 = search rules in
+    let sound : IsSound c.args.roster.now = (share_open _ _ c.in_ok-share.ensures entries places).0 in
+    let grown = sym c.unwrap-plan.ensures ∙ c.grow.ensures ∙ ap₂ planned c.in_ok-share.ensures.machine c.in_ok-share.ensures.jobs in
+    level_range c.args.roster.now sound c.unwrap-plan.result grown _ (ap (λ (M : Machine). take M.processors c.unwrap-plan.result.levels) c.in_ok-share.ensures.machine)
+
+pub total_power-power-requires-clause-powers_bound : goal.total_power-power-requires-clause-powers_bound
+total_power-power-requires-clause-powers_bound c =
+    let entries : length c.args.roster.now.table ≡ 32 = search rules in
+    let places : length c.args.roster.now.jobs ≡ 64 = search rules in
+    let sound : IsSound c.args.roster.now = (share_open _ _ c.in_ok-share.ensures entries places).0 in
+    let grown = sym c.unwrap-plan.ensures ∙ c.grow.ensures ∙ ap₂ planned c.in_ok-share.ensures.machine c.in_ok-share.ensures.jobs in
+    power_range c.args.roster.now sound c.unwrap-plan.result grown
+
+pub returns-then-is_err : goal.returns-then-is_err
 unfolding plan_reply filed
-returns-in-Open c =
-    let entries : length c.args.roster.table ≡ 32 = search rules in
-    let places : length c.args.roster.jobs ≡ 64 = search rules in
-    c.file.ensures
-    ∙ reply_open filed c.args.roster entries places c.args.page.now c.args.place _
-    (sym c.inspect-condition.ensures ∙ c.in-Open.is)
+returns-then-is_err c =
+    let entries : length c.args.roster.now.table ≡ 32 = search rules in
+    let places : length c.args.roster.now.jobs ≡ 64 = search rules in
+    let sound : IsSound c.args.roster.now = (share_open _ _ c.in_ok-share.ensures entries places).0 in
+    let grown = sym c.unwrap-plan.ensures ∙ c.grow.ensures ∙ ap₂ planned c.in_ok-share.ensures.machine c.in_ok-share.ensures.jobs in
+    let levels = ap (λ (M : Machine). take M.processors c.unwrap-plan.result.levels) c.in_ok-share.ensures.machine in
+    put_none c.args.page.now c.args.place _ _
+    (put_at c.args.page.now c.args.place _ c.write_plan-written.ensures refl refl
+    (line_is c.args.roster.now sound c.unwrap-plan.result grown places _ _ _ _ _ refl refl (c.total_power-power.ensures ∙ ap (total c.args.roster.now.table) levels) refl
+    levels))
+    (sym c.is_err.ensures.value ∙ c.if-is_err.true)
+    ∙ filed_is c.args.roster.now sound c.unwrap-plan.result grown c.args.page.now c.args.place
+    ∙ reply_open filed c.args.roster.now entries places c.args.page.now c.args.place _ (totalled _ _ c.in_ok-share.ensures.totals)
+
+pub returns : goal.returns
+unfolding plan_reply filed
+returns c =
+    let entries : length c.args.roster.now.table ≡ 32 = search rules in
+    let places : length c.args.roster.now.jobs ≡ 64 = search rules in
+    let sound : IsSound c.args.roster.now = (share_open _ _ c.in_ok-share.ensures entries places).0 in
+    let grown = sym c.unwrap-plan.ensures ∙ c.grow.ensures ∙ ap₂ planned c.in_ok-share.ensures.machine c.in_ok-share.ensures.jobs in
+    let levels = ap (λ (M : Machine). take M.processors c.unwrap-plan.result.levels) c.in_ok-share.ensures.machine in
+    let f = found c.args.roster.now sound in
+    put_written c.args.page.now c.args.place _ _ _
+    (put_at c.args.page.now c.args.place _ c.write_plan-written.ensures refl refl
+    (line_is c.args.roster.now sound c.unwrap-plan.result grown places _ _ _ _ _ refl refl (c.total_power-power.ensures ∙ ap (total c.args.roster.now.table) levels) refl
+    levels))
+    (sym c.is_err.ensures.value ∙ c.if-is_err.false)
+    (ap (λ (M : Machine). frame_length M.processors) c.in_ok-share.ensures.machine
+    ∙ ap frame_length (sym (size_is c.args.roster.now sound c.unwrap-plan.result grown))
+    ∙ sym (line_size _ _ f.0 f.1))
+    ∙ filed_is c.args.roster.now sound c.unwrap-plan.result grown c.args.page.now c.args.place
+    ∙ reply_open filed c.args.roster.now entries places c.args.page.now c.args.place _ (totalled _ _ c.in_ok-share.ensures.totals)

@@ -22,7 +22,7 @@ pub returns-then-not-one_to : goal.returns-then-not-one_to
 returns-then-not-one_to c =
     let entries : length c.args.self.now.table ≡ 32 = search rules in
     let places : length c.args.self.now.jobs ≡ 64 = search rules in
-    let sound : IsSound c.args.self.now = (share_open _ _ c.in_ok-share.ensures entries places).0 in
+    let sound : IsSound c.args.self.now = (share_open _ _ c.in_ok-share.ensures).0 in
     refused_by (reply_open _ entries places sound _ _ (retire_4 _ _ _ _ (sym c.if-not-one_to.ensures)))
 
 pub overflow_cast-id : goal.overflow_cast-id
@@ -32,21 +32,21 @@ pub find-requires : goal.find-requires
 find-requires c =
     let entries : length c.args.self.now.table ≡ 32 = search rules in
     let places : length c.args.self.now.jobs ≡ 64 = search rules in
-    let sound : IsSound c.args.self.now = (share_open _ _ c.in_ok-share.ensures entries places).0 in
+    let sound : IsSound c.args.self.now = (share_open _ _ c.in_ok-share.ensures).0 in
     ap listed c.in_ok-share.ensures.jobs ∙ held_listed _ entries places sound
 
 pub returns-in_default : goal.returns-in_default
 returns-in_default c =
     let entries : length c.args.self.now.table ≡ 32 = search rules in
     let places : length c.args.self.now.jobs ≡ 64 = search rules in
-    let sound : IsSound c.args.self.now = (share_open _ _ c.in_ok-share.ensures entries places).0 in
+    let sound : IsSound c.args.self.now = (share_open _ _ c.in_ok-share.ensures).0 in
     refused_by (leave_missing _ entries places sound _ (sym c.if-not-one_to.ensures) (found_none _ _ c.in_ok-share.ensures.jobs _ _ c.in_default.ensures).0)
 
 pub overflow_sub-self : goal.overflow_sub-self
 overflow_sub-self c =
     let entries : length c.args.self.now.table ≡ 32 = search rules in
     let places : length c.args.self.now.jobs ≡ 64 = search rules in
-    let sound : IsSound c.args.self.now = (share_open _ _ c.in_ok-share.ensures entries places).0 in
+    let sound : IsSound c.args.self.now = (share_open _ _ c.in_ok-share.ensures).0 in
     leave_some _ entries places sound _ (sym c.if-not-one_to.ensures) (found_there _ _ c.in_ok-share.ensures.jobs _ _ c.in-Ok.ensures).0
 
 
@@ -54,14 +54,14 @@ pub slice_bounds-take_out-end : goal.slice_bounds-take_out-end
 slice_bounds-take_out-end c =
     let entries : length c.args.self.now.table ≡ 32 = search rules in
     let places : length c.args.self.now.jobs ≡ 64 = search rules in
-    let sound : IsSound c.args.self.now = (share_open _ _ c.in_ok-share.ensures entries places).0 in
+    let sound : IsSound c.args.self.now = (share_open _ _ c.in_ok-share.ensures).0 in
     sound.places
 
 pub returns : goal.returns
 returns c =
     let entries : length c.args.self.now.table ≡ 32 = search rules in
     let places : length c.args.self.now.jobs ≡ 64 = search rules in
-    let sound : IsSound c.args.self.now = (share_open _ _ c.in_ok-share.ensures entries places).0 in
+    let sound : IsSound c.args.self.now = (share_open _ _ c.in_ok-share.ensures).0 in
     let there = found_there _ _ c.in_ok-share.ensures.jobs _ _ c.in-Ok.ensures in
     leave_out _ entries places sound _ (sym c.if-not-one_to.ensures) there.0 _ _ there.1
     (taken_out_part c.args.self.now.jobs places c.args.self.now.held _ sound.places c.take_out.ensures)

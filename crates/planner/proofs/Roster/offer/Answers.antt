@@ -25,7 +25,7 @@ pub returns-in_err-job : goal.returns-in_err-job
 returns-in_err-job c =
     let entries : length c.args.self.now.table ≡ 32 = search rules in
     let places : length c.args.self.now.jobs ≡ 64 = search rules in
-    let open_at = share_open _ _ c.in_ok-share.ensures entries places in
+    let open_at = share_open _ _ c.in_ok-share.ensures in
     let p = err_from_is_err_and c.from_residual-in_err-job.result c.from_residual-in_err-job.ensures.1 in
     let none = no_job_there _ _ _ _ _ c.in_err-job.ensures in
     rw (p.1, p.2, none.1) (offer_4 _ entries places open_at.0 _ _ _ _ none.0)
@@ -34,14 +34,14 @@ pub find-requires : goal.find-requires
 find-requires c =
     let entries : length c.args.self.now.table ≡ 32 = search rules in
     let places : length c.args.self.now.jobs ≡ 64 = search rules in
-    let open_at = share_open _ _ c.in_ok-share.ensures entries places in
+    let open_at = share_open _ _ c.in_ok-share.ensures in
     ap listed c.in_ok-share.ensures.jobs ∙ held_listed _ entries places open_at.0
 
 pub returns-in_default : goal.returns-in_default
 returns-in_default c =
     let entries : length c.args.self.now.table ≡ 32 = search rules in
     let places : length c.args.self.now.jobs ≡ 64 = search rules in
-    let open_at = share_open _ _ c.in_ok-share.ensures entries places in
+    let open_at = share_open _ _ c.in_ok-share.ensures in
     let new = job_there _ _ _ _ _ c.in_ok-job.ensures in
     offer_held _ entries places open_at.0 _ _ _ _ new.0 _ new.1 (found_there _ _ c.in_ok-share.ensures.jobs _ _ c.in_default.ensures).0
 
@@ -49,8 +49,8 @@ pub returns-then-held-ge-PLACES : goal.returns-then-held-ge-PLACES
 returns-then-held-ge-PLACES c =
     let entries : length c.args.self.now.table ≡ 32 = search rules in
     let places : length c.args.self.now.jobs ≡ 64 = search rules in
-    let held = share_count c.args.self.now c.in_ok-share.share c.in_ok-share.ensures entries places in
-    let open_at = share_open _ _ c.in_ok-share.ensures entries places in
+    let held = share_count c.args.self.now c.in_ok-share.share c.in_ok-share.ensures in
+    let open_at = share_open _ _ c.in_ok-share.ensures in
     let new = job_there _ _ _ _ _ c.in_ok-job.ensures in
     offer_full _ entries places open_at.0 _ _ _ _ new.0 _ new.1 (found_none _ _ c.in_ok-share.ensures.jobs _ _ c.in-Err.ensures).0 (omega (arith, held, c.if-held-ge-PLACES.true))
 
@@ -63,8 +63,8 @@ pub with-requires-clause-hyperperiod_nonzero : goal.with-requires-clause-hyperpe
 with-requires-clause-hyperperiod_nonzero c =
     let entries : length c.args.self.now.table ≡ 32 = search rules in
     let places : length c.args.self.now.jobs ≡ 64 = search rules in
-    let held = share_count c.args.self.now c.in_ok-share.share c.in_ok-share.ensures entries places in
-    let open_at = share_open _ _ c.in_ok-share.ensures entries places in
+    let held = share_count c.args.self.now c.in_ok-share.share c.in_ok-share.ensures in
+    let open_at = share_open _ _ c.in_ok-share.ensures in
     let new = job_there _ _ _ _ _ c.in_ok-job.ensures in
     with_range _ entries places open_at.0 _ (found_none _ _ c.in_ok-share.ensures.jobs _ _ c.in-Err.ensures).0 (omega (arith, held, c.if-held-ge-PLACES.false))
     (subst JobInRange (sym new.1) ((ranging.rule.one_job _ _ _ _).0 new.0)) _ open_at.1
@@ -73,8 +73,8 @@ pub returns-in_default-with : goal.returns-in_default-with
 returns-in_default-with c =
     let entries : length c.args.self.now.table ≡ 32 = search rules in
     let places : length c.args.self.now.jobs ≡ 64 = search rules in
-    let held = share_count c.args.self.now c.in_ok-share.share c.in_ok-share.ensures entries places in
-    let open_at = share_open _ _ c.in_ok-share.ensures entries places in
+    let held = share_count c.args.self.now c.in_ok-share.share c.in_ok-share.ensures in
+    let open_at = share_open _ _ c.in_ok-share.ensures in
     let new = job_there _ _ _ _ _ c.in_ok-job.ensures in
     offer_long _ entries places open_at.0 _ _ _ _ new.0 _ new.1 (found_none _ _ c.in_ok-share.ensures.jobs _ _ c.in-Err.ensures).0 (omega (arith, held, c.if-held-ge-PLACES.false)) _ open_at.1 _
     c.with.ensures c.in_default-with.is
@@ -89,8 +89,8 @@ pub returns : goal.returns
 returns c =
     let entries : length c.args.self.now.table ≡ 32 = search rules in
     let places : length c.args.self.now.jobs ≡ 64 = search rules in
-    let held = share_count c.args.self.now c.in_ok-share.share c.in_ok-share.ensures entries places in
-    let open_at = share_open _ _ c.in_ok-share.ensures entries places in
+    let held = share_count c.args.self.now c.in_ok-share.share c.in_ok-share.ensures in
+    let open_at = share_open _ _ c.in_ok-share.ensures in
     let new = job_there _ _ _ _ _ c.in_ok-job.ensures in
     let none = found_none _ _ c.in_ok-share.ensures.jobs _ _ c.in-Err.ensures in
     offer_more _ entries places open_at.0 _ _ _ _ new.0 _ new.1 none.0 (omega (arith, held, c.if-held-ge-PLACES.false)) _ open_at.1 _ c.with.ensures _

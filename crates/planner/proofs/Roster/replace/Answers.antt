@@ -18,14 +18,14 @@ pub returns-then-not-accepts : goal.returns-then-not-accepts
 returns-then-not-accepts c =
     let entries : length c.args.self.now.table ≡ 32 = search rules in
     let places : length c.args.self.now.jobs ≡ 64 = search rules in
-    let sound : IsSound c.args.self.now = (share_open _ _ c.in_ok-share.ensures entries places).0 in
+    let sound : IsSound c.args.self.now = (share_open _ _ c.in_ok-share.ensures).0 in
     refused_by (reply_open _ entries places sound _ _ (table_3 _ _ _ _ (sym (c.if-not-accepts.ensures))))
 
 pub returns : goal.returns
 returns c =
     let entries : length c.args.self.now.table ≡ 32 = search rules in
     let places : length c.args.self.now.jobs ≡ 64 = search rules in
-    let sound : IsSound c.args.self.now = (share_open _ _ c.in_ok-share.ensures entries places).0 in
+    let sound : IsSound c.args.self.now = (share_open _ _ c.in_ok-share.ensures).0 in
     let ok = sym (c.if-not-accepts.ensures) in
     reply_table _ entries places sound _ _ ok ((table_laws.tests _ _).0 ok).size c.entries_of-table.ensures
     ∙ reply_open _ entries places sound _ _ (table_0 _ _ _ _ ok)

@@ -39,4 +39,4 @@ returns-in-Closed c = ap totals_found c.in-Closed.ensures
 
 pub returns-in-Open : goal.returns-in-Open
 unfolding totals_found
-returns-in-Open c = record { totals = ap totals_found c.in-Open.ensures; machine = refl; jobs = refl }
+returns-in-Open c = record { entries = search rules; places = search rules; totals = ap totals_found c.in-Open.ensures; machine = refl; jobs = refl }
