@@ -16,6 +16,7 @@ use Rattle.planner.specs.Model.{Model, Closed, Opened}
 use Rattle.planner.specs.Roster.{model_of, roster_of, well_formed, inspected, totals_found}
 use Rattle.planner.specs.Claims.{InspectRule, Kept}
 use Rattle.planner.proofs.Results.{planner}
+use Rattle.planner.proofs.Replies.{is_damaged, is_closed}
 use Rattle.filing.specs.Plans.{Filed, filed_by, unwritten, reply_on}
 use Rattle.filing.specs.Claims.{ReplyRule}
 
@@ -32,28 +33,29 @@ module _ (on : Model → List ℕ → ℕ → Filed) where
   unfolding reply_on
   damaged r e page place = rw (e, reply_on)
 
+  module _ (r : Roster) (page : List ℕ) (place : ℕ) where
+    pub reply_untotalled : on Closed page place ≡ unwritten NoMachine page → (refusal : Refusal) → Err refusal ≡ totals_found (inspected r)
+        → filed_by (Err refusal) page ≡ reply_on on r page place
+    unfolding totals_found
+    reply_untotalled none refusal e = go (inspected r) refl
+      where
+        go : (c : Condition) → inspected r ≡ c → filed_by (Err refusal) page ≡ reply_on on r page place
+        go condition.Damaged f =
+            let z : ◌≡◌ {A = Result Totals Refusal} (Err refusal) (Err Damaged) = e ∙ ap totals_found f in
+            let same : refusal ≡ Damaged = cc in
+            ap (λ (x : Refusal). unwritten x page) same ∙ sym (damaged r (is_damaged r f) page place)
+        go condition.Closed f =
+            let z : ◌≡◌ {A = Result Totals Refusal} (Err refusal) (Err NoMachine) = e ∙ ap totals_found f in
+            let same : refusal ≡ NoMachine = cc in
+            ap (λ (x : Refusal). unwritten x page) same
+            ∙ sym (well r (is_closed r f).0 page place ∙ ap (λ (m : Model). on m page place) (is_closed r f).1 ∙ none)
+        go (condition.Open t) f = let z : Err refusal ≡ Ok t = e ∙ ap totals_found f in cc
+
   module _ (r : Roster) (entries : length r.table ≡ 32) (places : length r.jobs ≡ 64) where
     pub rule : InspectRule r
     rule = planner.inspects r entries places
 
     module _ (page : List ℕ) (place : ℕ) where
-      pub reply_untotalled : on Closed page place ≡ unwritten NoMachine page → (refusal : Refusal) → Err refusal ≡ totals_found (inspected r)
-          → filed_by (Err refusal) page ≡ reply_on on r page place
-      unfolding totals_found
-      reply_untotalled none refusal e = go (inspected r) refl
-        where
-          go : (c : Condition) → inspected r ≡ c → filed_by (Err refusal) page ≡ reply_on on r page place
-          go condition.Damaged f =
-              let z : ◌≡◌ {A = Result Totals Refusal} (Err refusal) (Err Damaged) = e ∙ ap totals_found f in
-              let same : refusal ≡ Damaged = cc in
-              ap (λ (x : Refusal). unwritten x page) same ∙ sym (damaged r (rule.damaged f) page place)
-          go condition.Closed f =
-              let z : ◌≡◌ {A = Result Totals Refusal} (Err refusal) (Err NoMachine) = e ∙ ap totals_found f in
-              let same : refusal ≡ NoMachine = cc in
-              ap (λ (x : Refusal). unwritten x page) same
-              ∙ sym (well r (rule.closed f).0 page place ∙ ap (λ (m : Model). on m page place) (rule.closed f).1 ∙ none)
-          go (condition.Open t) f = let z : Err refusal ≡ Ok t = e ∙ ap totals_found f in cc
-
       pub reply_open : (t : Totals) → inspected r ≡ condition.Open t
           → on (Opened r.machine (take r.machine.levels r.table) (take r.held r.jobs)) page place ≡ reply_on on r page place
       reply_open t e = sym (well r (rule.open_form t e) page place ∙ ap (λ (m : Model). on m page place) (rule.open_model t e))

@@ -34,10 +34,10 @@ module _ (p : List ℕ) (place : ℕ) (line : List ℕ) where
       → reply ≡ written p place line
   put_at e f g h = e ∙ cc
 
-  pub put_written : {answer : Result (Unit {0}) NoRoom} (exit : List ℕ) (n : ℕ) → answered answer exit ≡ written p place line → is_err answer ≡ false
+  pub put_written : (answer : Result (Unit {0}) NoRoom) (exit : List ℕ) (n : ℕ) → answered answer exit ≡ written p place line → is_err answer ≡ false
       → n ≡ length line → filed_by (Ok n) exit ≡ put_on p place line
   unfolding put_on page.number_of
-  put_written {answer} exit n e w size = go answer refl
+  put_written answer exit n e w size = go answer refl
     where
       go : (a : Result (Unit {0}) NoRoom) → answer ≡ a → filed_by (Ok n) exit ≡ put_on p place line
       go (Ok done) f =
@@ -46,10 +46,10 @@ module _ (p : List ℕ) (place : ℕ) (line : List ℕ) where
           ∙ ap (λ (reply : Reply). filed_with reply line) e
       go (Err none) f = let z : true ≡ false = sym (ap is_err f) ∙ w in cc
 
-  pub put_none : {answer : Result (Unit {0}) NoRoom} (exit : List ℕ) → answered answer exit ≡ written p place line → is_err answer ≡ true
+  pub put_none : (answer : Result (Unit {0}) NoRoom) (exit : List ℕ) → answered answer exit ≡ written p place line → is_err answer ≡ true
       → filed_by (Err refusal.NoRoom) exit ≡ put_on p place line
   unfolding put_on page.number_of refusal_number
-  put_none {answer} exit e w = go answer refl
+  put_none answer exit e w = go answer refl
     where
       go : (a : Result (Unit {0}) NoRoom) → answer ≡ a → filed_by (Err refusal.NoRoom) exit ≡ put_on p place line
       go (Ok done) f = let z : false ≡ true = sym (ap is_err f) ∙ w in cc

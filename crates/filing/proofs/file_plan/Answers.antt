@@ -23,66 +23,54 @@ use Rattle.filing.proofs.file_plan.Goals as goal
 pub returns-in_err-share : goal.returns-in_err-share
 unfolding plan_reply filed
 returns-in_err-share c =
-    let entries : length c.args.roster.now.table ≡ 32 = search rules in
-    let places : length c.args.roster.now.jobs ≡ 64 = search rules in
     let p = err_from_is_err_and c.from_residual.result c.from_residual.ensures.1 in
-    rw (p.1, p.2) (reply_untotalled filed c.args.roster.now entries places c.args.page.now c.args.place refl _ c.in_err-share.ensures)
+    rw (p.1, p.2) (reply_untotalled filed c.args.roster.now c.args.page.now c.args.place refl _ c.in_err-share.ensures)
 
 pub unwrap-plan-requires : goal.unwrap-plan-requires
 unwrap-plan-requires c =
-    let entries : length c.args.roster.now.table ≡ 32 = search rules in
-    let places : length c.args.roster.now.jobs ≡ 64 = search rules in
-    let sound : IsSound c.args.roster.now = (share_open _ _ c.in_ok-share.ensures entries places).0 in
+    let sound : IsSound c.args.roster.now = (share_open _ _ c.in_ok-share.ensures).0 in
     ap is_some (c.grow.ensures ∙ ap₂ planned c.in_ok-share.ensures.machine c.in_ok-share.ensures.jobs) ∙ some_plan c.args.roster.now sound
 
 pub total_power-power-requires-clause-levels_bound : goal.total_power-power-requires-clause-levels_bound
 total_power-power-requires-clause-levels_bound c =
-    let entries : length c.args.roster.now.table ≡ 32 = search rules in
-    let places : length c.args.roster.now.jobs ≡ 64 = search rules in
-    let sound : IsSound c.args.roster.now = (share_open _ _ c.in_ok-share.ensures entries places).0 in
+    let sound : IsSound c.args.roster.now = (share_open _ _ c.in_ok-share.ensures).0 in
     let grown = sym c.unwrap-plan.ensures ∙ c.grow.ensures ∙ ap₂ planned c.in_ok-share.ensures.machine c.in_ok-share.ensures.jobs in
     level_range c.args.roster.now sound c.unwrap-plan.result grown _ (ap (λ (M : Machine). take M.processors c.unwrap-plan.result.levels) c.in_ok-share.ensures.machine)
 
 pub total_power-power-requires-clause-powers_bound : goal.total_power-power-requires-clause-powers_bound
 total_power-power-requires-clause-powers_bound c =
-    let entries : length c.args.roster.now.table ≡ 32 = search rules in
-    let places : length c.args.roster.now.jobs ≡ 64 = search rules in
-    let sound : IsSound c.args.roster.now = (share_open _ _ c.in_ok-share.ensures entries places).0 in
+    let sound : IsSound c.args.roster.now = (share_open _ _ c.in_ok-share.ensures).0 in
     let grown = sym c.unwrap-plan.ensures ∙ c.grow.ensures ∙ ap₂ planned c.in_ok-share.ensures.machine c.in_ok-share.ensures.jobs in
     power_range c.args.roster.now sound c.unwrap-plan.result grown
 
 pub returns-then-is_err : goal.returns-then-is_err
 unfolding plan_reply filed
 returns-then-is_err c =
-    let entries : length c.args.roster.now.table ≡ 32 = search rules in
-    let places : length c.args.roster.now.jobs ≡ 64 = search rules in
-    let sound : IsSound c.args.roster.now = (share_open _ _ c.in_ok-share.ensures entries places).0 in
+    let sound : IsSound c.args.roster.now = (share_open _ _ c.in_ok-share.ensures).0 in
     let grown = sym c.unwrap-plan.ensures ∙ c.grow.ensures ∙ ap₂ planned c.in_ok-share.ensures.machine c.in_ok-share.ensures.jobs in
     let levels = ap (λ (M : Machine). take M.processors c.unwrap-plan.result.levels) c.in_ok-share.ensures.machine in
-    put_none c.args.page.now c.args.place _ _
+    put_none c.args.page.now c.args.place _ _ _
     (put_at c.args.page.now c.args.place _ c.write_plan-written.ensures refl refl
-    (line_is c.args.roster.now sound c.unwrap-plan.result grown places _ _ _ _ _ refl refl (c.total_power-power.ensures ∙ ap (total c.args.roster.now.table) levels) refl
+    (line_is c.args.roster.now sound c.unwrap-plan.result grown c.in_ok-share.ensures.places _ _ _ _ _ refl refl (c.total_power-power.ensures ∙ ap (total c.args.roster.now.table) levels) refl
     levels))
     (sym c.is_err.ensures.value ∙ c.if-is_err.true)
     ∙ filed_is c.args.roster.now sound c.unwrap-plan.result grown c.args.page.now c.args.place
-    ∙ reply_open filed c.args.roster.now entries places c.args.page.now c.args.place _ (totalled _ _ c.in_ok-share.ensures.totals)
+    ∙ reply_open filed c.args.roster.now c.in_ok-share.ensures.entries c.in_ok-share.ensures.places c.args.page.now c.args.place _ (totalled _ _ c.in_ok-share.ensures.totals)
 
 pub returns : goal.returns
 unfolding plan_reply filed
 returns c =
-    let entries : length c.args.roster.now.table ≡ 32 = search rules in
-    let places : length c.args.roster.now.jobs ≡ 64 = search rules in
-    let sound : IsSound c.args.roster.now = (share_open _ _ c.in_ok-share.ensures entries places).0 in
+    let sound : IsSound c.args.roster.now = (share_open _ _ c.in_ok-share.ensures).0 in
     let grown = sym c.unwrap-plan.ensures ∙ c.grow.ensures ∙ ap₂ planned c.in_ok-share.ensures.machine c.in_ok-share.ensures.jobs in
     let levels = ap (λ (M : Machine). take M.processors c.unwrap-plan.result.levels) c.in_ok-share.ensures.machine in
     let f = found c.args.roster.now sound in
-    put_written c.args.page.now c.args.place _ _ _
+    put_written c.args.page.now c.args.place _ _ _ _
     (put_at c.args.page.now c.args.place _ c.write_plan-written.ensures refl refl
-    (line_is c.args.roster.now sound c.unwrap-plan.result grown places _ _ _ _ _ refl refl (c.total_power-power.ensures ∙ ap (total c.args.roster.now.table) levels) refl
+    (line_is c.args.roster.now sound c.unwrap-plan.result grown c.in_ok-share.ensures.places _ _ _ _ _ refl refl (c.total_power-power.ensures ∙ ap (total c.args.roster.now.table) levels) refl
     levels))
     (sym c.is_err.ensures.value ∙ c.if-is_err.false)
     (ap (λ (M : Machine). frame_length M.processors) c.in_ok-share.ensures.machine
     ∙ ap frame_length (sym (size_is c.args.roster.now sound c.unwrap-plan.result grown))
     ∙ sym (line_size _ _ f.0 f.1))
     ∙ filed_is c.args.roster.now sound c.unwrap-plan.result grown c.args.page.now c.args.place
-    ∙ reply_open filed c.args.roster.now entries places c.args.page.now c.args.place _ (totalled _ _ c.in_ok-share.ensures.totals)
+    ∙ reply_open filed c.args.roster.now c.in_ok-share.ensures.entries c.in_ok-share.ensures.places c.args.page.now c.args.place _ (totalled _ _ c.in_ok-share.ensures.totals)
