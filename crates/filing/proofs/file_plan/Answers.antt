@@ -1,14 +1,9 @@
 -- `filing::file_plan` meets its contract.
-use Prim.Native.Nat.{ℕ}
-use native.Mathlib.Omega.{arith}
-use mathlib.Core.Path.{◌≡◌, refl, sym, ap, ap₂, ◌∙◌}
-use mathlib.Core.List.{List}
-use borrow.Author.Rules.{rules}
-use lib.ListN.{length, take}
-use Rattle.std.specs.Prelude.{Some, is_some}
+use mathlib.Core.Path.{refl, sym, ap, ap₂, ◌∙◌}
+use lib.ListN.{take}
+use Rattle.std.specs.Prelude.{is_some}
 use Rattle.std.proofs.lemmas.Result.{err_from_is_err_and}
 use Rattle.gmf.specs.declared.Machine.{Machine}
-use Rattle.gmf.specs.declared.Job.{Job}
 use Rattle.gmf.specs.Power.{total}
 use Rattle.growing.specs.Plan.{planned}
 use Rattle.planner.specs.Claims.{IsSound}
