@@ -244,7 +244,7 @@ module _ (m : ℕ) (list : List ℕ) where
       ap (λ (r : Roster). record { answer = Err refusal; roster = r }) g ∙ ap (replied empty_roster) (sym (found_refusal _ refusal e))
 
   pub opened_so : (M : Machine) → found_in (imported m list) ≡ Ok M → (given : Roster) → given ≡ empty_roster
-      → (reply : Reply) → reply ≡ reply_to given (call_of M) → reply ≡ import_reply m list
+      → (reply : Reply) → reply ≡ reply_to given (OpenMachine M.processors M.levels M.lowest M.step) → reply ≡ import_reply m list
   unfolding import_reply
   opened_so M e given g reply r =
       r

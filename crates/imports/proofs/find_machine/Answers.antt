@@ -39,19 +39,19 @@ in_range c = machine_range _ _ _ _ (sym c.if-not-one_to.ensures) (speeds c)
 
 pub overflow_cast-result : goal.overflow_cast-result
 unfolding machine
-overflow_cast-result c = omega (arith, (in_range c).processors)
+overflow_cast-result c = omega (arith, in_range c)
 
 pub overflow_cast-result-2 : goal.overflow_cast-result-2
 unfolding machine
-overflow_cast-result-2 c = omega (arith, (in_range c).levels)
+overflow_cast-result-2 c = omega (arith, in_range c)
 
 pub overflow_cast-result-3 : goal.overflow_cast-result-3
 unfolding machine
-overflow_cast-result-3 c = omega (arith, (in_range c).lowest)
+overflow_cast-result-3 c = omega (arith, in_range c)
 
 pub overflow_cast-result-4 : goal.overflow_cast-result-4
 unfolding machine
-overflow_cast-result-4 c = omega (arith, (in_range c).step)
+overflow_cast-result-4 c = omega (arith, in_range c)
 
 pub returns : goal.returns
 unfolding found_in roster_of opened machine
