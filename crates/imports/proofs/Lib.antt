@@ -1,4 +1,4 @@
 pub mod AcceptanceTrials
-pub mod Replies
+pub mod Outcomes
 pub mod Rules
 pub mod Results

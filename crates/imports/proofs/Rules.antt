@@ -12,6 +12,7 @@ use Rattle.gmf.specs.declared.Machine.{Machine}
 use Rattle.gmf.specs.Machine.{InRange, machine}
 use Rattle.std.proofs.Common.{Result, Ok, Err}
 use Rattle.ranges.specs.Ranges.{one_to, speeds_fit}
+use Rattle.ranges.proofs.Rules.{machine_range}
 use Rattle.ranges.proofs.Results.{ranging}
 use Rattle.frequencies.specs.Lists.{is_list}
 use Rattle.frequencies.specs.Grammar.{IsFrequencyList}
@@ -25,21 +26,19 @@ use Rattle.clocks.specs.Claims.{OneGap}
 use Rattle.clocks.proofs.Results.{clocking}
 use Rattle.refusals.specs.declared.Refusal.{Refusal}
 use Rattle.refusals.specs.declared.Refusal.TheVariants.{Processors, FrequencyList, UnevenGaps}
-use Rattle.refusals.specs.declared.Answer.{Answer}
-use Rattle.refusals.specs.declared.Answer.TheVariants.{Accepted, Refused}
 use Rattle.refusals.specs.Numbers.{refusal_number, number_of}
 use Rattle.refusals.proofs.Results.{number_rule}
-use Rattle.planner.specs.Model.{Closed, OpenMachine, Outcome, refused, accepted, refuse_if, is_opened, step}
+use Rattle.planner.specs.Model.{Closed, OpenMachine, Outcome, refused, accepted, opened, step}
 use Rattle.planner.specs.declared.Roster.{Roster}
 use Rattle.planner.specs.declared.Reply.{Reply}
 use Rattle.planner.specs.Roster.{empty_roster, roster_of, replied, reply_to}
 use Rattle.planner.specs.Calls.{outcome_number, after}
 use Rattle.planner.specs.Claims.{Kept}
+use Rattle.planner.proofs.Outcomes.{open_1, open_2, open_0}
 use Rattle.planner.proofs.Results.{planner}
-use Rattle.imports.specs.declared.Found.{Found}
 use Rattle.imports.specs.Imports.{by_clock, imported, import_reply, found_in}
 use Rattle.imports.specs.Claims.{machine_call, top_of, OrderRule, call_of, FollowRule}
-use Rattle.imports.proofs.Replies.{on_empty, made_refused, made_opened, opened_machine, by_processors, by_clock_law}
+use Rattle.imports.proofs.Outcomes.{on_empty, imported_1, at_clock, imported_18, imported_19, found_refusal, found_0, found_opened, found_ok}
 
 -- ---- Speeds in range
 
@@ -84,30 +83,26 @@ module _ (m L b d : ℕ) where
 
   not_fitting : one_to 32 m ≡ true → speeds_fit L b d ≡ false → outcome_number made ≡ 2
   unfolding outcome_number refusal_number
-  not_fitting fits e = ap outcome_number (made_refused m L b d fits e)
+  not_fitting fits e = ap outcome_number (open_2 m L b d fits e)
 
   fitting : one_to 32 m ≡ true → speeds_fit L b d ≡ true → outcome_number made ≡ 0
   unfolding outcome_number
-  fitting fits e = ap outcome_number (made_opened m L b d fits e)
+  fitting fits e = ap outcome_number (open_0 m L b d fits e)
 
   -- It never meets 12.
   not_open : outcome_number made ≡ 12 → ⊥
-  unfolding step refuse_if is_opened outcome_number refusal_number
-  not_open = go (one_to 32 m) refl (speeds_fit L b d) refl
+  unfolding outcome_number refusal_number
+  not_open t = go (one_to 32 m) refl (speeds_fit L b d) refl
     where
-      go : (p : Bool) → one_to 32 m ≡ p → (q : Bool) → speeds_fit L b d ≡ q → outcome_number made ≡ 12 → ⊥
-      go false e q f t = omega (arith, rw e at t)
-      go true e false f t = omega (arith, not_fitting e f)
-      go true e true f t = omega (arith, fitting e f)
+      go : (p : Bool) → one_to 32 m ≡ p → (q : Bool) → speeds_fit L b d ≡ q → ⊥
+      go false e q f = omega (arith, ap outcome_number (open_1 m L b d e), t)
+      go true e false f = omega (arith, not_fitting e f, t)
+      go true e true f = omega (arith, fitting e f, t)
 
 -- ---- One after the other
 
 abbrev Fits : ℕ → Type 0
 Fits m = (1 ≤ m) × (m ≤ 32)
-
-refused_number : (refusal : Refusal) → outcome_number (refused refusal) ≡ refusal_number refusal
-unfolding outcome_number
-refused_number refusal = refl
 
 module _ (m : ℕ) (list : List ℕ) where
   fits : Fits m → one_to 32 m ≡ true
@@ -120,12 +115,9 @@ module _ (m : ℕ) (list : List ℕ) where
       go true e = absurd (n ((ranging.rule.number 32 m).0 e))
       go false e = e
 
-  at_clock : Fits m → (clock : Result Clock ListError) → clock_of list ≡ clock → imported m list ≡ by_clock m clock
-  at_clock f clock e = by_clock_law m list (fits f) ∙ ap (by_clock m) e
-
   as_call : Fits m → (numbers : List ℕ) → IsFrequencyList list numbers → OneGap numbers → imported m list ≡ step Closed (machine_call m numbers)
   unfolding by_clock
-  as_call f numbers l gap = at_clock f _ ((clocking.clock_rule list).even numbers l gap)
+  as_call f numbers l gap = at_clock m list (fits f) _ (sym ((clocking.clock_rule list).even numbers l gap))
 
   list_is : (numbers : List ℕ) → IsFrequencyList list numbers → is_list numbers ≡ true
   list_is numbers l = let rule = (listing.list_rule list).only numbers l in ap is_list rule.1 ∙ rule.0
@@ -147,22 +139,22 @@ module _ (m : ℕ) (list : List ℕ) where
             absurd (omega (arith, two, call, fitting m _ _ _ (fits f) (speeds_in numbers (list_is numbers l) (omega arith))))
 
   pub order_rule : OrderRule m list
-  unfolding by_clock refusal_number
+  unfolding outcome_number refusal_number import_reply
   order_rule = record {
-    by_1 = λ n. ap outcome_number (by_processors m list (misfits n)) ∙ refused_number Processors;
-    by_18 = λ f never. ap outcome_number (at_clock f (Err NoList) ((clocking.clock_rule list).no_list.1 never)) ∙ refused_number FrequencyList;
-    by_19 = λ f numbers l never. ap outcome_number (at_clock f (Err Uneven) (((clocking.clock_rule list).uneven numbers l).1 never)) ∙ refused_number UnevenGaps;
+    by_1 = λ n. ap outcome_number (imported_1 m list (misfits n));
+    by_18 = λ f never. ap outcome_number (imported_18 m list (fits f) (sym ((clocking.clock_rule list).no_list.1 never)));
+    by_19 = λ f numbers l never. ap outcome_number (imported_19 m list (fits f) (sym (((clocking.clock_rule list).uneven numbers l).1 never)));
     by_2 = too_fast;
     as_call = as_call;
-    roster_as_call = λ f numbers l gap. unfold import_reply in ap (replied empty_roster) (as_call f numbers l gap) ∙ sym (on_empty (machine_call m numbers));
+    roster_as_call = λ f numbers l gap. ap (replied empty_roster) (as_call f numbers l gap) ∙ sym (on_empty (machine_call m numbers));
   }
 
 -- ---- The reply follows the model
 
 reply_number : (o : Outcome) → number_of (replied empty_roster o).answer ≡ outcome_number o
-unfolding replied outcome_number
-reply_number (refused refusal) = number_rule.refused refusal
-reply_number (accepted model) = number_rule.accepted
+unfolding replied outcome_number number_of
+reply_number (refused refusal) = refl
+reply_number (accepted model) = refl
 
 reply_roster : (o : Outcome) → (replied empty_roster o).roster ≡ roster_of (after Closed o)
 unfolding replied after
@@ -175,142 +167,107 @@ unfolding outcome_number after
 stays (refused refusal) n = refl
 stays (accepted model) n = absurd (n refl)
 
--- By the three answers of a clock.
-clock_kept : (m : ℕ) (clock : Result Clock ListError) → Kept (after Closed (by_clock m clock))
-unfolding by_clock after
-clock_kept m (Err NoList) = tt
-clock_kept m (Err Uneven) = tt
-clock_kept m (Ok clock) = (planner.one_call Closed tt).kept (OpenMachine m clock.levels clock.lowest clock.step)
+-- ---- What holds of every import
 
-clock_not_7 : (m : ℕ) (clock : Result Clock ListError) → outcome_number (by_clock m clock) ≡ 7 → ⊥
-unfolding by_clock outcome_number refusal_number
-clock_not_7 m (Err NoList) e = omega arith
-clock_not_7 m (Err Uneven) e = omega arith
-clock_not_7 m (Ok clock) e = (planner.one_call Closed tt).never_7 (OpenMachine m clock.levels clock.lowest clock.step) e
+-- What an accepted one opens: a machine in range, by the machine call with its numbers.
+record Opens (o : Outcome) : Type 0 where
+  new : Machine
+  range : InRange new
+  call : o ≡ step Closed (call_of new)
+  is : o ≡ accepted (opened new)
 
-clock_not_12 : (m : ℕ) (clock : Result Clock ListError) → outcome_number (by_clock m clock) ≡ 12 → ⊥
-unfolding by_clock outcome_number refusal_number
-clock_not_12 m (Err NoList) e = omega arith
-clock_not_12 m (Err Uneven) e = omega arith
-clock_not_12 m (Ok clock) e = not_open m clock.levels clock.lowest clock.step e
+record Holds (o : Outcome) : Type 0 where
+  kept : Kept (after Closed o)
+  never_7 : outcome_number o ≡ 7 → ⊥
+  never_12 : outcome_number o ≡ 12 → ⊥
+  opens : outcome_number o ≡ 0 → Opens o
 
--- ---- An accepted import
-
--- The machine call with these numbers, which are in range.
-record Accepts (m : ℕ) (o : Outcome) : Type 0 where
-  levels : ℕ
-  lowest : ℕ
-  step_up : ℕ
-  call : o ≡ step Closed (OpenMachine m levels lowest step_up)
-  processors : one_to 32 m ≡ true
-  speeds : speeds_fit levels lowest step_up ≡ true
+-- A refusal by a number that is none of these.
+refused_holds : (refusal : Refusal) → (refusal_number refusal ≡ 7 → ⊥) → (refusal_number refusal ≡ 12 → ⊥) → Holds (refused refusal)
+unfolding after outcome_number
+refused_holds refusal seven twelve =
+    record { kept = tt; never_7 = seven; never_12 = twelve; opens = λ z. absurd (number_rule.never_0 refusal z) }
 
 module _ (m : ℕ) (fits : one_to 32 m ≡ true) where
-  made_accepts : (L b d : ℕ) → outcome_number (step Closed (OpenMachine m L b d)) ≡ 0 → Accepts m (step Closed (OpenMachine m L b d))
-  made_accepts L b d e = go (speeds_fit L b d) refl
+  made_opens : (L b d : ℕ) → outcome_number (made m L b d) ≡ 0 → Opens (made m L b d)
+  unfolding machine
+  made_opens L b d e = go (speeds_fit L b d) refl
     where
-      go : (p : Bool) → speeds_fit L b d ≡ p → Accepts m (step Closed (OpenMachine m L b d))
-      go true f = record { levels = L; lowest = b; step_up = d; call = refl; processors = fits; speeds = f }
+      go : (p : Bool) → speeds_fit L b d ≡ p → Opens (made m L b d)
+      go true f = record { new = machine m L b d; range = machine_range m L b d fits f; call = refl; is = open_0 m L b d fits f }
       go false f = absurd (omega (arith, not_fitting m L b d fits f, e))
 
-  clock_accepts : (clock : Result Clock ListError) → outcome_number (by_clock m clock) ≡ 0 → Accepts m (by_clock m clock)
-  unfolding by_clock outcome_number refusal_number
-  clock_accepts (Err NoList) e = absurd (omega arith)
-  clock_accepts (Err Uneven) e = absurd (omega arith)
-  clock_accepts (Ok clock) e = made_accepts clock.levels clock.lowest clock.step e
-
-not_one : (n : ℕ) → (1 ≡ n → ⊥) → outcome_number (refused Processors) ≡ n → ⊥
-unfolding outcome_number refusal_number
-not_one n h e = h e
+  clock_holds : (clock : Result Clock ListError) → Holds (by_clock m clock)
+  unfolding by_clock refusal_number
+  clock_holds (Err NoList) = refused_holds FrequencyList (λ z. omega arith) (λ z. omega arith)
+  clock_holds (Err Uneven) = refused_holds UnevenGaps (λ z. omega arith) (λ z. omega arith)
+  clock_holds (Ok clock) =
+      let rule = planner.one_call Closed tt in
+      record {
+        kept = rule.kept (OpenMachine m clock.levels clock.lowest clock.step);
+        never_7 = rule.never_7 (OpenMachine m clock.levels clock.lowest clock.step);
+        never_12 = not_open m clock.levels clock.lowest clock.step;
+        opens = made_opens clock.levels clock.lowest clock.step;
+      }
 
 module _ (m : ℕ) (list : List ℕ) where
-  accepts : outcome_number (imported m list) ≡ 0 → Accepts m (imported m list)
-  accepts e = go (one_to 32 m) refl
+  every_import : Holds (imported m list)
+  unfolding refusal_number
+  every_import = go (one_to 32 m) refl
     where
-      go : (p : Bool) → one_to 32 m ≡ p → Accepts m (imported m list)
-      go true f =
-          subst (Accepts m) (sym (by_clock_law m list f)) (clock_accepts m f (clock_of list) (ap outcome_number (sym (by_clock_law m list f)) ∙ e))
-      go false f = absurd (not_one 0 (λ z. omega arith) (ap outcome_number (sym (by_processors m list f)) ∙ e))
+      go : (p : Bool) → one_to 32 m ≡ p → Holds (imported m list)
+      go true e = subst Holds (sym (at_clock m list e (clock_of list) refl)) (clock_holds m e (clock_of list))
+      go false e = subst Holds (sym (imported_1 m list e)) (refused_holds Processors (λ z. omega arith) (λ z. omega arith))
 
-module _ (m : ℕ) (list : List ℕ) (e : outcome_number (imported m list) ≡ 0) where
-  abbrev a : Accepts m (imported m list)
-  a = accepts m list e
+  -- ---- An accepted import
 
-  machine_is : (import_reply m list).roster.machine ≡ machine m a.levels a.lowest a.step_up
-  unfolding import_reply
-  machine_is =
-      ap (λ (o : Outcome). (replied empty_roster o).roster.machine)
-      (a.call ∙ made_opened m a.levels a.lowest a.step_up a.processors a.speeds)
-      ∙ opened_machine (machine m a.levels a.lowest a.step_up)
+  module _ (e : outcome_number (imported m list) ≡ 0) where
+    abbrev a : Opens (imported m list)
+    a = every_import.opens e
 
-  accepted_range : InRange (import_reply m list).roster.machine
-  accepted_range =
-      subst InRange (sym machine_is)
-      ((ranging.rule.machines m a.levels a.lowest a.step_up).0 (ap₂ ◌&&◌ a.processors a.speeds))
+    machine_is : (import_reply m list).roster.machine ≡ a.new
+    unfolding import_reply replied opened roster_of
+    machine_is = ap (λ (o : Outcome). (replied empty_roster o).roster.machine) a.is
 
-  accepted_call : imported m list ≡ step Closed (call_of (import_reply m list).roster.machine)
-  unfolding machine
-  accepted_call = a.call ∙ ap (λ (M : Machine). step Closed (call_of M)) (sym machine_is)
+    accepted_range : InRange (import_reply m list).roster.machine
+    accepted_range = subst InRange (sym machine_is) a.range
 
--- ---- The roster, from what is found
+    accepted_call : imported m list ≡ step Closed (call_of (import_reply m list).roster.machine)
+    accepted_call = a.call ∙ ap (λ (M : Machine). step Closed (call_of M)) (sym machine_is)
 
-replied_refused : (o : Outcome) (refusal : Refusal) → (replied empty_roster o).answer ≡ Refused refusal
-    → replied empty_roster o ≡ record { answer = Refused refusal; roster = empty_roster }
-unfolding replied
-replied_refused (refused other) refusal e = ap (λ (a : Answer). record { answer = a; roster = empty_roster }) e
-replied_refused (accepted model) refusal e = absurd (number_rule.never_0 refusal (sym (number_rule.refused refusal) ∙ ap number_of (sym e) ∙ number_rule.accepted))
+  -- ---- The roster, from what is found
 
-replied_accepted : (o : Outcome) → (replied empty_roster o).answer ≡ Accepted → outcome_number o ≡ 0
-unfolding replied outcome_number
-replied_accepted (refused other) e = absurd (number_rule.never_0 other (sym (number_rule.refused other) ∙ ap number_of e ∙ number_rule.accepted))
-replied_accepted (accepted model) e = refl
-
-module _ (m : ℕ) (list : List ℕ) (found : Found) (is : found ≡ found_in (import_reply m list)) where
-  answer_is : found.answer ≡ (import_reply m list).answer
-  answer_is = ap (λ (f : Found). f.answer) is
-
-  machine_as : found.machine ≡ (import_reply m list).roster.machine
-  machine_as = ap (λ (f : Found). f.machine) is
-
-  pub not_opened : (refusal : Refusal) → found.answer ≡ Refused refusal → (given : Roster) → given ≡ empty_roster
-      → record { answer = Refused refusal; roster = given } ≡ import_reply m list
-  unfolding import_reply
+  pub not_opened : (refusal : Refusal) → found_in (imported m list) ≡ Err refusal → (given : Roster) → given ≡ empty_roster
+      → record { answer = Err refusal; roster = given } ≡ import_reply m list
+  unfolding import_reply replied
   not_opened refusal e given g =
-      ap (λ (r : Roster). record { answer = Refused refusal; roster = r }) g ∙ sym (replied_refused (imported m list) refusal (sym answer_is ∙ e))
+      ap (λ (r : Roster). record { answer = Err refusal; roster = r }) g ∙ ap (replied empty_roster) (sym (found_refusal _ refusal e))
 
-  pub opened_so : found.answer ≡ Accepted → (given : Roster) → given ≡ empty_roster → (processors levels lowest step_up : ℕ)
-      → processors ≡ found.machine.processors → levels ≡ found.machine.levels → lowest ≡ found.machine.lowest → step_up ≡ found.machine.step
-      → (reply : Reply) → reply ≡ reply_to given (OpenMachine processors levels lowest step_up) → reply ≡ import_reply m list
+  pub opened_so : (M : Machine) → found_in (imported m list) ≡ Ok M → (given : Roster) → given ≡ empty_roster
+      → (reply : Reply) → reply ≡ reply_to given (OpenMachine M.processors M.levels M.lowest M.step) → reply ≡ import_reply m list
   unfolding import_reply
-  opened_so e given g processors levels lowest step_up ep el eb ed reply r =
-      let zero_is = replied_accepted (imported m list) (sym answer_is ∙ e) in
+  opened_so M e given g reply r =
       r
-      ∙ ap (λ (q : Roster). reply_to q (OpenMachine processors levels lowest step_up)) g
-      ∙ rw (ep, el, eb, ed) (ap (λ (M : Machine). reply_to empty_roster (call_of M)) machine_as)
-      ∙ on_empty (call_of (import_reply m list).roster.machine)
-      ∙ ap (replied empty_roster) (sym (accepted_call m list zero_is))
+      ∙ ap (λ (q : Roster). reply_to q (call_of M)) g
+      ∙ on_empty (call_of M)
+      ∙ ap (λ (N : Machine). replied empty_roster (step Closed (call_of N))) (sym (found_opened _ M e))
+      ∙ ap (replied empty_roster) (sym (accepted_call (found_0 _ M e)))
 
--- ---- All of it
-
-module _ (m : ℕ) (list : List ℕ) where
-  -- What holds of the refusal by 1 and of every answer of a clock.
-  every_import : (P : Outcome → Type 0) → P (refused Processors) → P (by_clock m (clock_of list)) → P (imported m list)
-  every_import P one rest = go (one_to 32 m) refl
-    where
-      go : (p : Bool) → one_to 32 m ≡ p → P (imported m list)
-      go true e = subst P (sym (by_clock_law m list e)) rest
-      go false e = subst P (sym (by_processors m list e)) one
+  -- ---- All of it
 
   pub follow_rule : FollowRule m list
   unfolding import_reply
   follow_rule = record {
     number = reply_number (imported m list);
     roster = reply_roster (imported m list);
-    kept = every_import (λ (o : Outcome). Kept (after Closed o)) (unfold after in tt) (clock_kept m (clock_of list));
+    kept = every_import.kept;
     refused_book = stays (imported m list);
     refused_roster = λ n. reply_roster (imported m list) ∙ ap roster_of (stays (imported m list) n) ∙ planner.begins;
-    in_range_law = accepted_range m list;
-    as_machine = accepted_call m list;
-    never_7 = every_import (λ (o : Outcome). outcome_number o ≡ 7 → ⊥) (not_one 7 (λ z. omega arith)) (clock_not_7 m (clock_of list));
-    never_12 = every_import (λ (o : Outcome). outcome_number o ≡ 12 → ⊥) (not_one 12 (λ z. omega arith)) (clock_not_12 m (clock_of list));
+    in_range_law = accepted_range;
+    as_machine = accepted_call;
+    found_refused = λ refusal e. unfold replied in ap (λ (o : Outcome). (replied empty_roster o).answer) (found_refusal _ refusal e);
+    found_accepted = found_ok (imported m list);
+    found_machine = found_opened (imported m list);
+    never_7 = every_import.never_7;
+    never_12 = every_import.never_12;
   }

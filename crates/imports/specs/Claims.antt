@@ -1,16 +1,17 @@
 -- What is proved of imports: `Importing` is all of it. Its proof is proofs/Results.antt.
-use Rattle.std.specs.Prelude.{ℕ, ◌+◌, ◌-◌, ◌*◌, ◌≤◌, ◌<◌, ◌≡◌, ◌↔◌, List, [], ◌∷◌, length}
+use Rattle.std.specs.Prelude.{ℕ, ◌+◌, ◌-◌, ◌*◌, ◌≤◌, ◌<◌, ◌≡◌, ◌↔◌, Ok, Err, List, [], ◌∷◌, length}
 use Rattle.gmf.specs.declared.Machine.{Machine}
 use Rattle.gmf.specs.Machine.{InRange, machine}
 use Rattle.frequencies.specs.Grammar.{IsFrequencyList}
 use Rattle.clocks.specs.Clocks.{speeds_of, lowest_of, step_of}
 use Rattle.clocks.specs.Claims.{OneGap}
+use Rattle.refusals.specs.declared.Refusal.{Refusal}
 use Rattle.refusals.specs.Numbers.{number_of}
 use Rattle.planner.specs.Model.{Closed, Opened, Call, OpenMachine, step}
 use Rattle.planner.specs.Roster.{empty_roster, roster_of, reply_to}
 use Rattle.planner.specs.Calls.{outcome_number, after}
 use Rattle.planner.specs.Claims.{Kept}
-use Rattle.imports.specs.Imports.{imported, import_reply}
+use Rattle.imports.specs.Imports.{imported, import_reply, found_in}
 
 -- "… a machine call with that processor count and those speeds …"
 abbrev pub machine_call : ℕ → List ℕ → Call
@@ -47,6 +48,10 @@ pub record FollowRule (m : ℕ) (list : List ℕ) : Type 0 where
   -- Accepted, it is the machine call with the numbers of the machine that the roster has.
   pub in_range_law : outcome_number (imported m list) ≡ 0 → InRange (import_reply m list).roster.machine
   pub as_machine : outcome_number (imported m list) ≡ 0 → imported m list ≡ step Closed (call_of (import_reply m list).roster.machine)
+  -- What is found with no roster is what the reply says: its refusal, or the machine of its roster.
+  pub found_refused : (refusal : Refusal) → found_in (imported m list) ≡ Err refusal → (import_reply m list).answer ≡ Err refusal
+  pub found_accepted : (M : Machine) → found_in (imported m list) ≡ Ok M → (import_reply m list).answer ≡ Ok (tt {0})
+  pub found_machine : (M : Machine) → found_in (imported m list) ≡ Ok M → (import_reply m list).roster.machine ≡ M
   -- It takes no roster.
   pub never_7 : outcome_number (imported m list) ≡ 7 → ⊥
   pub never_12 : outcome_number (imported m list) ≡ 12 → ⊥

@@ -1,5 +1,6 @@
 -- An import: "Import it, with a processor count given, as a fresh roster on a new machine."
 use Rattle.std.specs.Prelude.{ℕ, not, Result, Ok, Err, List}
+use Rattle.gmf.specs.declared.Machine.{Machine}
 use Rattle.ranges.specs.Ranges.{one_to}
 use Rattle.clocks.specs.declared.Clock.{Clock}
 use Rattle.clocks.specs.declared.ListError.{ListError}
