@@ -1,12 +1,12 @@
 -- `frame_kinds::admit_due` meets its contract: the numbers are those of its fields' widths.
+use mathlib.Core.Path.{◌∙◌}
 use native.Mathlib.Omega.{arith}
 use Rattle.frame_kinds.proofs.Numbers.{pair_number}
 use Rattle.frame_kinds.proofs.Readings.{admit_due_right, admit_due_wrong}
 use Rattle.frame_kinds.proofs.admit_due.Goals as goal
 
 pub returns-in_err-id : goal.returns-in_err-id
-returns-in_err-id c =
-    rw c.from_residual.ensures (admit_due_wrong _ c.in_err-id.ensures)
+returns-in_err-id c = c.from_residual.ensures ∙ admit_due_wrong _ c.in_err-id.ensures
 
 pub returns : goal.returns
 returns c =

@@ -1,5 +1,5 @@
 -- `frame_kinds::machine` meets its contract: the numbers are those of its fields' widths.
-use mathlib.Core.Path.{refl}
+use mathlib.Core.Path.{refl, ◌∙◌}
 use native.Mathlib.Omega.{arith}
 use Rattle.frame_kinds.proofs.Numbers.{pair_number}
 use Rattle.frame_kinds.proofs.Readings.{speeds_length, machine_right, machine_wrong}
@@ -10,7 +10,8 @@ returns-in_default c = machine_wrong _ (λ e. omega arith)
 
 pub returns-in_err-lowest : goal.returns-in_err-lowest
 returns-in_err-lowest c =
-    rw c.from_residual.ensures (machine_wrong _ (λ e. c.in_err-lowest.ensures (omega (arith, speeds_length c.args.rest.now _ refl (omega arith)))))
+    c.from_residual.ensures
+    ∙ machine_wrong _ (λ e. c.in_err-lowest.ensures (omega (arith, speeds_length c.args.rest.now _ refl (omega arith))))
 
 pub returns : goal.returns
 returns c =

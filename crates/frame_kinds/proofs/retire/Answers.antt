@@ -1,12 +1,12 @@
 -- `frame_kinds::retire` meets its contract: the number is that of its field's width.
+use mathlib.Core.Path.{◌∙◌}
 use native.Mathlib.Omega.{arith}
 use Rattle.frame_kinds.proofs.Numbers.{pair_number}
 use Rattle.frame_kinds.proofs.Readings.{retire_right, retire_wrong}
 use Rattle.frame_kinds.proofs.retire.Goals as goal
 
 pub returns-in_err-id : goal.returns-in_err-id
-returns-in_err-id c =
-    rw c.from_residual.ensures (retire_wrong _ c.in_err-id.ensures)
+returns-in_err-id c = c.from_residual.ensures ∙ retire_wrong _ c.in_err-id.ensures
 
 pub returns : goal.returns
 returns c =
