@@ -1,5 +1,5 @@
 -- `desk::put_refusal` meets its contract.
-use Rattle.std.proofs.Common.{ap, arith}
+use Rattle.std.proofs.Common.{ap, arith, is_err}
 use Rattle.hexadecimal.specs.Text.{line_of}
 use Rattle.hexadecimal.proofs.Results.{hexadecimal}
 use Rattle.frame_writer.specs.Frames.{refusal_bytes}
@@ -7,15 +7,15 @@ use Rattle.filing.specs.Plans.{Filed}
 use Rattle.filing.proofs.Written.{put_written, put_none}
 use Rattle.desk.proofs.put_refusal.Goals as goal
 
-pub returns-in-Written : goal.returns-in-Written
-returns-in-Written c =
+pub returns-in-Ok : goal.returns-in-Ok
+returns-in-Ok c =
     let l = refusal_bytes c.args.line c.args.number in
-    let put = put_written c.args.page.now c.args.place (line_of l) _ 13 c.write_refusal-placing.ensures c.in-Written.is
+    let put = put_written c.args.page.now c.args.place (line_of l) _ _ 13 c.write_refusal.ensures (ap is_err c.in-Ok.is)
     (omega (arith, hexadecimal.line_length l)) in
     (ap (λ (f : Filed). f.count) put, ap (λ (f : Filed). f.page) put)
 
-pub returns-in-NoRoom : goal.returns-in-NoRoom
-returns-in-NoRoom c =
+pub returns-in-Err : goal.returns-in-Err
+returns-in-Err c =
     let l = refusal_bytes c.args.line c.args.number in
-    let put = put_none c.args.page.now c.args.place (line_of l) _ c.write_refusal-placing.ensures c.in-NoRoom.is in
+    let put = put_none c.args.page.now c.args.place (line_of l) _ _ c.write_refusal.ensures (ap is_err c.in-Err.is) in
     (ap (λ (f : Filed). f.count) put, ap (λ (f : Filed). f.page) put)
