@@ -67,18 +67,20 @@ fn fill_lines(desk: Desk, sheet: &[u8], page: &mut [u8]) -> Filled
     let mut at = desk.at;
     let mut line = desk.line;
     let mut end = 0;
+    // By position: the desk goes on at this one with the next page.
     while at < sheet.len() {
         if page.len() - end < LONGEST_FRAME {
             break;
         }
         let next = line_end(sheet, at);
         let frame = read_line(&sheet[at..next]);
-        let mut answer = Err(refusal);
-        if frame.is_some() {
+        let answer = if frame.is_some() {
             let made = call_frame(roster, frame, page, end);
             roster = made.roster;
-            answer = made.answer;
-        }
+            made.answer
+        } else {
+            Err(refusal)
+        };
         end = settle(answer, line, page, end);
         at = next;
         line = line.wrapping_add(1);
@@ -93,10 +95,7 @@ fn fill_lines(desk: Desk, sheet: &[u8], page: &mut [u8]) -> Filled
 fn fill_too_long(desk: Desk, size: usize, page: &mut [u8]) -> Filled
     ensures { filled_on result page.new ≡ fill_too_long desk size page.old }
 {
-    if size <= desk.at {
-        return Filled { desk, end: 0 };
-    }
-    if page.len() < LONGEST_FRAME {
+    if size <= desk.at || page.len() < LONGEST_FRAME {
         return Filled { desk, end: 0 };
     }
     let end = put_refusal(0, 5, page, 0);
