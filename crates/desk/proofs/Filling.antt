@@ -33,19 +33,19 @@ module _ (desk : Desk) (size : ℕ) (page : List ℕ) where
   unfolding fill_too_long
   too_long_small h s = rw (lt-ltb desk.at size h, lt-leb longest_frame (length page) s, fill_too_long)
 
-  pub too_long_put : desk.at < size → longest_frame ≤ length page → (number line : ℕ) → line ≡ 0 → number ≡ 5
-      → (count : ℕ) (exit : List ℕ) → count ≡ (put_on page 0 (line_of (refusal_bytes line number))).count
-      → exit ≡ (put_on page 0 (line_of (refusal_bytes line number))).page
+  pub too_long_put : desk.at < size → longest_frame ≤ length page → (number : ℕ) → number ≡ 5
+      → (count : ℕ) (exit : List ℕ) → count ≡ (put_on page 0 (line_of (refusal_bytes 0 number))).count
+      → exit ≡ (put_on page 0 (line_of (refusal_bytes 0 number))).page
       → filled_on record { desk = record { roster = desk.roster; at = size; line = desk.line }; end = count } exit ≡ fill_too_long desk size page
   unfolding fill_too_long
-  too_long_put h s number line l n count exit e f =
+  too_long_put h s number n count exit e f =
       rw (lt-ltb desk.at size h, le-leb longest_frame (length page) s, fill_too_long)
       (ap₂ (λ (k : ℕ) (q : List ℕ). record { desk = record { roster = desk.roster; at = size; line = desk.line }; page = q; end = k }) e f
-      ∙ ap₂ (λ (a b : ℕ). record {
+      ∙ ap (λ (k : ℕ). record {
         desk = record { roster = desk.roster; at = size; line = desk.line };
-        page = (put_on page 0 (line_of (refusal_bytes a b))).page;
-        end = (put_on page 0 (line_of (refusal_bytes a b))).count;
-      }) l n)
+        page = (put_on page 0 (line_of (refusal_bytes 0 k))).page;
+        end = (put_on page 0 (line_of (refusal_bytes 0 k))).count;
+      }) n)
 
 -- ---- One line
 
@@ -67,18 +67,13 @@ module _ (number place : ℕ) (page : List ℕ) where
       ≡ settled number place record { number = n; roster = r; page = page; count = 0 }
   refused_as n h r = rw (ne_eqb n 0 h, settled)
 
-  pub settled_refused : (answer : Result ℕ Refusal) (refusal : Refusal) → answer ≡ Err refusal → (given written : ℕ) (exit : List ℕ)
-      → given ≡ refusal_number refusal
-      → written ≡ (put_on page place (line_of (refusal_bytes number given))).count → exit ≡ (put_on page place (line_of (refusal_bytes number given))).page
+  pub settled_refused : (answer : Result ℕ Refusal) (refusal : Refusal) → answer ≡ Err refusal → (written : ℕ) (exit : List ℕ)
+      → written ≡ (put_on page place (line_of (refusal_bytes number (refusal_number refusal)))).count
+      → exit ≡ (put_on page place (line_of (refusal_bytes number (refusal_number refusal)))).page
       → (r : Roster) → record { roster = r; page = exit; end = place + written } ≡ settled number place (reply answer r)
   unfolding number_of
-  settled_refused answer refusal a given written exit g n p r =
+  settled_refused answer refusal a written exit n p r =
       ap₂ (λ (k : ℕ) (q : List ℕ). record { roster = r; page = q; end = place + k }) n p
-      ∙ ap (λ (k : ℕ). record {
-        roster = r;
-        page = (put_on page place (line_of (refusal_bytes number k))).page;
-        end = place + (put_on page place (line_of (refusal_bytes number k))).count;
-      }) g
       ∙ refused_as (refusal_number refusal) (number_rule.never_0 refusal) r
       ∙ ap (λ (q : Result ℕ Refusal). settled number place (reply q r)) (sym a)
 

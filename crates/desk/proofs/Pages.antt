@@ -181,7 +181,7 @@ too_long_keeps desk size page = go (dec_lt desk.at size) (dec_le longest_frame (
         subst (Keeps desk page) (too_long_small desk size page inside (omega arith))
         record { within = omega arith; same_length = refl; forward = omega arith }
     go (yes inside) (yes room) =
-        subst (Keeps desk page) (too_long_put desk size page inside room 5 0 refl refl _ _ refl refl)
+        subst (Keeps desk page) (too_long_put desk size page inside room 5 refl _ _ refl refl)
         record {
           within = ⊎_elim (λ z. omega arith) (λ f. omega arith) (put_rule page 0 (line_of (refusal_bytes 0 5))).fits;
           same_length = (put_rule page 0 (line_of (refusal_bytes 0 5))).same_length;
@@ -191,7 +191,7 @@ too_long_keeps desk size page = go (dec_lt desk.at size) (dec_le longest_frame (
 too_long_further : (desk : Desk) (size : ℕ) (page : List ℕ) → desk.at < size → longest_frame ≤ length page → {filling : Filling} → filling ≡ fill_too_long desk size page
     → desk.at < filling.desk.at
 too_long_further desk size page inside room e =
-    let at_end = too_long_put desk size page inside room 5 0 refl refl _ _ refl refl in
+    let at_end = too_long_put desk size page inside room 5 refl _ _ refl refl in
     omega (arith, ap (λ (f : Filling). f.desk.at) (e ∙ sym at_end))
 
 module _ (desk : Desk) (sheet page : List ℕ) where

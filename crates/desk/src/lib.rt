@@ -6,7 +6,7 @@ ghost use Rattle.hexadecimal.specs.Text.{line_of};
 ghost use Rattle.frame_reader.specs.Lines.{lines_of};
 ghost use Rattle.frame_writer.specs.Frames.{refusal_bytes};
 ghost use Rattle.planner.specs.declared.Roster as rosters;
-ghost use Rattle.refusals.specs.Numbers.{number_of};
+ghost use Rattle.refusals.specs.Numbers.{refusal_number, number_of};
 ghost use Rattle.filing.specs.Plans.{put_on};
 ghost use Rattle.calls.specs.Lines.{count_in};
 ghost use Rattle.desk.specs.Pages.{at_start, settled, filled_on, fill_lines, fill_too_long, fill_page};
@@ -37,9 +37,10 @@ pub struct Filled {
 }
 
 // Writes the frame of a refused line, where it has room; how many bytes were written: two digits for each of 6 bytes, and the 0A.
-fn put_refusal(line: u32, number: u8, page: &mut [u8], place: usize) -> usize
-    ensures { (result ≡ (put_on page.old place (line_of (refusal_bytes line number))).count) × (page.new ≡ (put_on page.old place (line_of (refusal_bytes line number))).page) }
+fn put_refusal(line: u32, refusal: Refusal, page: &mut [u8], place: usize) -> usize
+    ensures { let put = put_on page.old place (line_of (refusal_bytes line (refusal_number refusal))) in (result ≡ put.count) × (page.new ≡ put.page) }
 {
+    let number = refusal.number();
     match frame_writer::write_refusal(line, number, page, place) {
         Ok(()) => 13,
         Err(_) => 0,
@@ -53,7 +54,7 @@ fn settle(answer: Result<usize, Refusal>, line: u32, page: &mut [u8], place: usi
 {
     match answer {
         Ok(count) => place + count,
-        Err(refusal) => place + put_refusal(line, refusal.number(), page, place),
+        Err(refusal) => place + put_refusal(line, refusal, page, place),
     }
 }
 
@@ -98,15 +99,9 @@ fn fill_too_long(desk: Desk, size: usize, page: &mut [u8]) -> Filled
     if size <= desk.at || page.len() < LONGEST_FRAME {
         return Filled { desk, end: 0 };
     }
-    let end = put_refusal(0, 5, page, 0);
-    let roster = desk.roster;
-    let line = desk.line;
+    let end = put_refusal(0, Refusal::Malformed, page, 0);
     Filled {
-        desk: Desk {
-            roster,
-            at: size,
-            line,
-        },
+        desk: Desk { at: size, ..desk },
         end,
     }
 }
@@ -116,9 +111,8 @@ impl Desk {
     pub fn start() -> Desk
         ensures { result ≡ at_start }
     {
-        let roster = Roster::empty();
         Desk {
-            roster,
+            roster: Roster::empty(),
             at: 0,
             line: 1,
         }
