@@ -13,9 +13,9 @@ use Rattle.places.specs.Places.{insert}
 use Rattle.planner.specs.declared.Roster.{Roster}
 use Rattle.planner.specs.declared.Offer.{Offer}
 use Rattle.planner.specs.Model.{Outcome, refused, accepted}
-use Rattle.planner.specs.Offers.{offer_on, offering_as, offering_to}
+use Rattle.planner.specs.Offers.{offer_on, offering_as, offering_to, IsOfferOn}
 use Rattle.planner.proofs.Forms.{holding}
-use Rattle.planner.proofs.Offers.{Taken}
+use Rattle.planner.proofs.Offers.{Taken, taken}
 use Rattle.slack.specs.Slack.{all_at_top}
 use Rattle.slack_calls.specs.declared.Slacks.{Slacks}
 use Rattle.slack_calls.specs.Slacks.{slack_under, slack_on, slack_to}
@@ -33,7 +33,11 @@ module _ (r : Roster) (id cost period deadline : ℕ) where
           ap (λ (x : Refusal). slack_on (refused x)) same ∙ ap slack_on (sym f)
       go (accepted model) f = let z : Err refusal ≡ offering_as (accepted model) = e ∙ ap offering_as f in cc
 
-  module _ (entries : length r.table ≡ 32) (places : length r.jobs ≡ 64) (o : Offer) (t : Taken r id cost period deadline entries places o) where
+  -- An offer that is not refused.
+  module _ (o : Offer) (i : IsOfferOn r id cost period deadline o) where
+    abbrev t : Taken r id cost period deadline o i
+    t = taken r id cost period deadline o i
+
     abbrev joins : List Job
     joins = insert (job_due id cost period deadline) (take r.held r.jobs)
 
