@@ -34,18 +34,18 @@ module _ (r : Roster) (id cost period deadline : ℕ) where
 
   -- An offer that is not refused.
   module _ (o : Offer) (i : IsOfferOn r id cost period deadline o) where
-    abbrev t : Taken r id cost period deadline o i
-    t = taken r id cost period deadline o i
+    abbrev shows : Taken r id cost period deadline o i
+    shows = taken r id cost period deadline o i
 
     abbrev joins : List Job
     joins = insert (job_due id cost period deadline) (take r.held r.jobs)
 
     pub in_places : take (r.held + 1) o.jobs ≡ joins
-    in_places = ap₂ take (sym t.with_one_more.size) t.places_are ∙ holding joins
+    in_places = ap₂ take (sym shows.with_one_more.size) shows.places_are ∙ holding joins
 
     pub with_it : (a : Slacks) → a ≡ slack_under r.machine (take (r.held + 1) o.jobs) (take r.machine.processors (replicate 32 (r.machine.levels - 1)))
         → Ok a ≡ slack_to r id cost period deadline
     unfolding slack_to slack_on all_at_top
     with_it a e =
-        let few : r.machine.processors ≤ 32 = t.with_one_more.machine_range.processors.1 in
-        ap Ok (e ∙ ap₂ (slack_under r.machine) in_places (take-replicate r.machine.processors 32 (r.machine.levels - 1) few)) ∙ ap slack_on (sym t.onto)
+        let few : r.machine.processors ≤ 32 = shows.with_one_more.machine_range.processors.1 in
+        ap Ok (e ∙ ap₂ (slack_under r.machine) in_places (take-replicate r.machine.processors 32 (r.machine.levels - 1) few)) ∙ ap slack_on (sym shows.onto)
