@@ -43,9 +43,10 @@ module _ (r : Roster) (id cost period deadline : ℕ) where
     pub in_places : take (r.held + 1) o.jobs ≡ joins
     in_places = ap₂ take (sym shows.with_one_more.size) shows.places_are ∙ holding joins
 
-    pub with_it : (a : Slacks) → a ≡ slack_under r.machine (take (r.held + 1) o.jobs) (take r.machine.processors (replicate 32 (r.machine.levels - 1)))
-        → Ok a ≡ slack_to r id cost period deadline
+    pub with_it : (a : Slacks) (highest : ℕ) → a ≡ slack_under r.machine (take (r.held + 1) o.jobs) (take r.machine.processors (replicate 32 highest))
+        → highest ≡ r.machine.levels - 1 → Ok a ≡ slack_to r id cost period deadline
     unfolding slack_to slack_on all_at_top
-    with_it a e =
+    with_it a highest e h =
         let few : r.machine.processors ≤ 32 = shows.with_one_more.machine_range.processors.1 in
-        ap Ok (e ∙ ap₂ (slack_under r.machine) in_places (take-replicate r.machine.processors 32 (r.machine.levels - 1) few)) ∙ ap slack_on (sym shows.onto)
+        let levels = take-replicate r.machine.processors 32 highest few ∙ ap (replicate r.machine.processors) h in
+        ap Ok (e ∙ ap₂ (slack_under r.machine) in_places levels) ∙ ap slack_on (sym shows.onto)

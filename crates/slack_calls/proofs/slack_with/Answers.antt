@@ -42,4 +42,4 @@ invariant_of-share c =
     }
 
 pub returns : goal.returns
-returns c = with_it _ _ _ _ _ _ c.in_ok-offer.ensures _ c.slack_under.ensures
+returns c = with_it _ _ _ _ _ _ c.in_ok-offer.ensures _ _ c.slack_under.ensures (omega arith)
