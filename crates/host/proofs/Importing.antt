@@ -5,7 +5,7 @@ use native.Mathlib.Omega.{arith}
 use mathlib.Core.Path.{◌≡◌, refl, sym, ap, ◌∙◌}
 use mathlib.Core.List.{List, [], ◌∷◌, ◌++◌, append-nil}
 use Rattle.std.specs.Prelude.{None, Result, Ok, Err}
-use borrow.Author.Tests.{eq-eqb, ne_eqb, le-leb, lt-leb}
+use borrow.Author.Tests.{le-leb, lt-leb}
 use lib.ListN.{length, take, drop}
 use Rattle.gmf.specs.declared.Machine.{Machine}
 use Rattle.gmf.specs.Machine.{InRange}
@@ -34,7 +34,7 @@ use Rattle.imports.proofs.Results.{importing}
 use Rattle.calls.proofs.Results.{calling}
 use Rattle.host.specs.Host.{host_calls, end_number, end_model}
 use Rattle.host.specs.Replies.{replied_on}
-use Rattle.host.specs.Imports.{machine_line, imported_on}
+use Rattle.host.specs.Imports.{machine_line, put_machine, imported_on}
 use Rattle.host.specs.Claims.{ImportRule}
 use Rattle.host.proofs.Walking.{Walked, walked}
 use Rattle.host.proofs.Turns.{goes_on, ended}
@@ -42,31 +42,39 @@ use Rattle.host.proofs.Hosting.{host_rule, number_allowed}
 
 -- ---- As the code finds it
 
+-- An answer on a page, by its number.
+module _ (M : Machine) (page : List ℕ) (place : ℕ) where
+  put_refused : (answer : Result (Unit {0}) Refusal) → (number_of answer ≡ 0 → ⊥)
+      → put_machine answer M page place ≡ record { number = number_of answer; page = page }
+  unfolding put_machine
+  put_refused (Ok accepted) n = absurd (n (number_rule.accepted accepted))
+  put_refused (Err refusal) n = ap (λ (k : ℕ). record { number = k; page = page }) (sym (number_rule.refused _ refusal))
+
+  put_accepted : (answer : Result (Unit {0}) Refusal) → number_of answer ≡ 0 → put_machine answer M page place ≡ written page place (machine_line M)
+  unfolding put_machine
+  put_accepted (Ok accepted) z = refl
+  put_accepted (Err refusal) z = absurd (number_rule.never_0 refusal (sym (number_rule.refused _ refusal) ∙ z))
+
 module _ (m : ℕ) (list page : List ℕ) (place : ℕ) where
-  on_refused : (number_of (import_reply m list).answer ≡ 0 → ⊥)
-      → imported_on m list page place ≡ record { number = number_of (import_reply m list).answer; page = page }
-  unfolding imported_on
-  on_refused n = rw (ne_eqb (number_of (import_reply m list).answer) 0 n, imported_on) refl
-
-  on_accepted : number_of (import_reply m list).answer ≡ 0 → imported_on m list page place ≡ written page place (machine_line (import_reply m list).roster.machine)
-  unfolding imported_on
-  on_accepted e = rw (eq-eqb (number_of (import_reply m list).answer) 0 e, imported_on) refl
-
   pub import_refused : (refusal : Refusal) → Err refusal ≡ found_in (imported m list)
       → (given : ℕ) → given ≡ refusal_number refusal → replied_on given page ≡ imported_on m list page place
+  unfolding imported_on put_machine
   import_refused refusal found given g =
-      let is = ap number_of ((importing.follow_rule m list).found_refused refusal (sym found)) ∙ number_rule.refused _ refusal in
-      ap (λ (k : ℕ). replied_on k page) (g ∙ sym is) ∙ sym (on_refused (λ z. number_rule.never_0 refusal (sym is ∙ z)))
+      ap (λ (k : ℕ). replied_on k page) g
+      ∙ ap (λ (a : Result (Unit {0}) Refusal). put_machine a (import_reply m list).roster.machine page place)
+      (sym ((importing.follow_rule m list).found_refused refusal (sym found)))
 
   pub import_written : (M : Machine) → Ok M ≡ found_in (imported m list) → (placing : Result (Unit {0}) NoRoom) (exit : List ℕ)
       → answered placing exit ≡ written page place (line_of (machine_bytes M.processors M.levels M.lowest M.step))
       → (given : ℕ) → given ≡ page-of.number_of placing → replied_on given exit ≡ imported_on m list page place
-  unfolding machine_line
+  unfolding imported_on put_machine machine_line
   import_written M found placing exit w given g =
+      let follows = importing.follow_rule m list in
       ap (λ (k : ℕ). replied_on k exit) g
       ∙ w
-      ∙ ap (λ (q : Machine). written page place (machine_line q)) (sym ((importing.follow_rule m list).found_machine M (sym found)))
-      ∙ sym (on_accepted (ap number_of ((importing.follow_rule m list).found_accepted M (sym found)) ∙ number_rule.accepted _))
+      ∙ ap (λ (q : Machine). put_machine (Ok tt) q page place) (sym (follows.found_machine M (sym found)))
+      ∙ ap (λ (a : Result (Unit {0}) Refusal). put_machine a (import_reply m list).roster.machine page place)
+      (sym (follows.found_accepted M (sym found)))
 
 -- ---- What the line of a machine says
 
@@ -153,11 +161,13 @@ module _ (m : ℕ) (list : List ℕ) where
 
   module _ (page : List ℕ) (place : ℕ) where
     as_refused : (outcome_number (imported m list) ≡ 0 → ⊥) → imported_on m list page place ≡ record { number = outcome_number (imported m list); page = page }
-    as_refused n = on_refused m list page place (λ z. n (sym number_is ∙ z)) ∙ ap (λ (k : ℕ). record { number = k; page = page }) number_is
+    unfolding imported_on
+    as_refused n = put_refused M page place (import_reply m list).answer (λ z. n (sym number_is ∙ z)) ∙ ap (λ (k : ℕ). record { number = k; page = page }) number_is
 
     module _ (e : outcome_number (imported m list) ≡ 0) where
       placed_line : imported_on m list page place ≡ written page place line
-      placed_line = on_accepted m list page place (number_is ∙ e)
+      unfolding imported_on
+      placed_line = put_accepted M page place (import_reply m list).answer (number_is ∙ e)
 
       as_short : length page < place + 15 → imported_on m list page place ≡ record { number = 6; page = page }
       unfolding written
