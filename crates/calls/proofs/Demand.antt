@@ -49,9 +49,9 @@ use Rattle.calls.proofs.Following.{never_7, list_replies, list_end, list_kept}
 -- ---- What a line asks for
 
 module _ (line : List ℕ) where
-  asked_by : (s : Said) → said_by line ≡ s → asked line ≡ asked_as (reading_of s).frame (reading_of s).values
+  asked_by : (s : Said) → said_by line ≡ s → asked line ≡ asked_as (reading_of s)
   unfolding asked
-  asked_by s e = ap (λ (q : Said). asked_as (reading_of q).frame (reading_of q).values) e
+  asked_by s e = ap (λ (q : Said). asked_as (reading_of q)) e
 
   pub ask_rule : AskRule line
   unfolding asked_as reading_of kind_of beside_of

@@ -40,6 +40,13 @@ fn changed(reply: Reply) -> LineAnswer
     }
 }
 
+// Kind 02: as many of the values as the frame counts, or all of them.
+fn replace_table(roster: Roster, values: &[u32; 32], count: usize) -> LineAnswer
+    ensures { (page : List ℕ) (place : ℕ) → answered_on result page ≡ reply_as roster (change (ReplaceTable (take count values.now))) page place }
+{
+    changed(roster.replace_table(&values[..count.min(32)]))
+}
+
 // Kinds 03 and 06. A frame 03 has its period for its deadline.
 fn admit(roster: Roster, id: u16, cost: u16, period: u16, deadline: u16) -> LineAnswer
     ensures { (page : List ℕ) (place : ℕ) → answered_on result page ≡ reply_as roster (change (Admit id cost period deadline)) page place }
@@ -69,7 +76,7 @@ pub fn call_frame(roster: Roster, frame: Option<Frame>, page: &mut [u8], place: 
             lowest as u64,
             step as u64,
         )),
-        Frame::Power { count, values } => changed(roster.replace_table(&values[..count.min(32)])),
+        Frame::Power { count, values } => replace_table(roster, &values, count),
         Frame::Admit { id, cost, period } => admit(roster, id, cost, period, period),
         Frame::Retire { id } => changed(roster.retire(id as u64)),
         Frame::PlanWanted => LineAnswer {

@@ -1,5 +1,5 @@
 -- A job that is offered without being admitted (02, 2026-01): "For a job not yet held, a library call refused as 03 is, but never by 17 …".
-use Rattle.std.specs.Prelude.{ℕ, true, false, not, List, Result, Ok, Err, leb, length}
+use Rattle.std.specs.Prelude.{ℕ, ◌≡◌, true, false, not, List, Result, Ok, Err, leb, length}
 use Rattle.gmf.specs.declared.Machine.{Machine}
 use Rattle.gmf.specs.declared.Job.{Job}
 use Rattle.gmf.specs.Jobs.{job_due}
@@ -48,3 +48,9 @@ offering_as (accepted model) = Ok (record { jobs = (roster_of model).jobs; total
 
 unfoldable pub offering_to : Roster → ℕ → ℕ → ℕ → ℕ → Result Offer Refusal
 offering_to r id cost period deadline = offering_as (offer_on r id cost period deadline)
+
+-- An offer that is not refused, on such a roster, which has 32 entries and 64 places.
+pub record IsOfferOn (r : Roster) (id cost period deadline : ℕ) (offer : Offer) : Type 0 where
+  pub entries : length r.table ≡ 32
+  pub places : length r.jobs ≡ 64
+  pub answer : Ok offer ≡ offering_to r id cost period deadline

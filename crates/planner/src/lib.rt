@@ -6,7 +6,7 @@ ghost use Rattle.std.specs.Prelude.{◌≡◌, true, MatchResult};
 ghost use Rattle.places.specs.Places.{listed};
 ghost use Rattle.planner.specs.Model.{OpenMachine, ReplaceTable, Admit, Retire};
 ghost use Rattle.planner.specs.Roster.{empty_roster, inspected, totals_found, IsShareOf, found, reply_to};
-ghost use Rattle.planner.specs.Offers.{job_in, offering_to};
+ghost use Rattle.planner.specs.Offers.{job_in, offering_to, IsOfferOn};
 
 use gmf::{Job, Machine};
 use house_table::default_table;
@@ -218,7 +218,7 @@ impl Roster {
 
     // Offers a job without admitting it: refused as an admission is, but not for want of a plan.
     pub fn offer(&self, id: u64, cost: u64, period: u64, deadline: u64) -> Result<Offer, Refusal>
-        ensures { result ≡ offering_to self.now id cost period deadline }
+        ensures { MatchResult result (IsOfferOn self.now id cost period deadline) (λ refusal. Err refusal ≡ offering_to self.now id cost period deadline) }
     {
         let share = self.share()?;
         let job = job_of(id, cost, period, deadline)?;

@@ -22,11 +22,11 @@ use Rattle.refusals.specs.Numbers.{refusal_number}
 use Rattle.slack.specs.Slack.{slack_of, difference, slack_at, one_up_to, ticks_of, remainders_of, all_at_top}
 use Rattle.slack_writer.specs.Frames.{twos_complement, slack_fields}
 use Rattle.filing.specs.Plans.{put_on, reply_on}
-use Rattle.slack_calls.specs.Slacks.{slack_line, slack_as, slack_filed_on, slack_filed, slack_reply, slack_under, no_slack, slack_on, slack_with, slack_to}
+use Rattle.slack_calls.specs.Slacks.{slack_line, slack_as, slack_filed_on, slack_filed, slack_reply, slack_under, slack_on, slack_with, slack_to}
 use Rattle.slack_calls.specs.Claims.{SlackTrials}
 
 pub trials : SlackTrials
-unfolding euclid gcd lcm speed top machine window hyperperiod work works insertNumber sort_descending largest capacity slowest raise demand holds raises_left raise_while_fails step steps growing plan_of digit_of digits_of line_of written unused has insert places_of listed listed_after zeros entries_of rise all_below is_table one_to job_fits speeds_fit zeroTest shapeTest cycle_too_long no_plan finds_none refuse_if on_machine empty_roster model_of sound well_formed offered offer offer_on roster_with refusal_number slack_of difference slack_at one_up_to ticks_of remainders_of all_at_top twos_complement slack_fields put_on reply_on slack_line slack_as slack_filed_on slack_filed slack_reply slack_under no_slack slack_on slack_with slack_to
+unfolding euclid gcd lcm speed top machine window hyperperiod work works insertNumber sort_descending largest capacity slowest raise demand holds raises_left raise_while_fails step steps growing plan_of digit_of digits_of line_of written unused has insert places_of listed listed_after zeros entries_of rise all_below is_table one_to job_fits speeds_fit zeroTest shapeTest cycle_too_long no_plan finds_none refuse_if on_machine empty_roster model_of sound well_formed offered offer offer_on roster_with refusal_number slack_of difference slack_at one_up_to ticks_of remainders_of all_at_top twos_complement slack_fields put_on reply_on slack_line slack_as slack_filed_on slack_filed slack_reply slack_under slack_on slack_with slack_to
 trials = record {
   third = refl;
   sheet = refl;

@@ -3,93 +3,46 @@ use Prim.Native.Nat.{ℕ, zero, suc, ◌+◌, ◌-◌, ◌≤◌}
 use native.Mathlib.Omega.{arith}
 use mathlib.Core.Path.{◌≡◌, refl, sym, ap, ap₂, ◌∙◌}
 use mathlib.Core.List.{List, ◌∷◌}
+use Rattle.std.specs.Prelude.{Result, Ok, Err}
+use Rattle.std.proofs.lemmas.List.{take-replicate}
 use lib.ListN.{length, take, replicate}
-use Rattle.gmf.specs.declared.Machine.{Machine}
 use Rattle.gmf.specs.declared.Job.{Job}
-use Rattle.gmf.specs.Machine.{InRange}
-use Rattle.gmf.specs.Jobs.{JobInRange, ByRisingId, Every, hyperperiod, hyperperiod_limit}
-use Rattle.workload.specs.Load.{totals}
-use Rattle.refusals.specs.declared.Answer.TheVariants.{Accepted, Refused}
 use Rattle.refusals.specs.declared.Refusal.{Refusal}
+use Rattle.gmf.specs.Jobs.{job_due}
+use Rattle.places.specs.Places.{insert}
 use Rattle.planner.specs.declared.Roster.{Roster}
-use Rattle.planner.specs.declared.Offering.{Offering}
-use Rattle.planner.specs.Model.{Closed, Opened, Outcome, refused, accepted}
-use Rattle.planner.specs.Roster.{roster_of}
-use Rattle.planner.specs.Offers.{offer_on, totals_in, offering_as, offering_to}
-use Rattle.planner.specs.Claims.{WithOneMore}
+use Rattle.planner.specs.declared.Offer.{Offer}
+use Rattle.planner.specs.Model.{Outcome, refused, accepted}
+use Rattle.planner.specs.Offers.{offer_on, offering_as, offering_to}
 use Rattle.planner.proofs.Forms.{holding}
-use Rattle.planner.proofs.Results.{planner}
+use Rattle.planner.proofs.Offers.{Taken}
 use Rattle.slack.specs.Slack.{all_at_top}
-use Rattle.slack_calls.specs.declared.SlackAnswer.{SlackAnswer}
-use Rattle.slack_calls.specs.Slacks.{slack_under, no_slack, slack_on, slack_to}
+use Rattle.slack_calls.specs.declared.Slacks.{Slacks}
+use Rattle.slack_calls.specs.Slacks.{slack_under, slack_on, slack_to}
 
--- The levels of m processors, of 32 alike.
-take_replicate : (m n v : ℕ) → m ≤ n → take m (replicate n v) ≡ replicate m v
-take_replicate zero n v h = refl
-take_replicate (suc m) zero v h = absurd (omega arith)
-take_replicate (suc m) (suc n) v h = ap (λ (l : List ℕ). v ∷ l) (take_replicate m n v (omega arith))
-
-module _ (r : Roster) (entries : length r.table ≡ 32) (places : length r.jobs ≡ 64) (id cost period deadline : ℕ) (offering : Offering)
-    (is : offering ≡ offering_to r id cost period deadline) where
-  as_outcome : (o : Outcome) → offer_on r id cost period deadline ≡ o → offering ≡ offering_as r o
-  unfolding offering_to
-  as_outcome o e = is ∙ ap (offering_as r) e
-
+module _ (r : Roster) (id cost period deadline : ℕ) where
   -- A refusal.
-  pub with_refused : (refusal : Refusal) → offering.answer ≡ Refused refusal → no_slack refusal ≡ slack_to r id cost period deadline
-  unfolding slack_to slack_on offering_as
+  pub with_refused : (refusal : Refusal) → Err refusal ≡ offering_to r id cost period deadline → Err refusal ≡ slack_to r id cost period deadline
+  unfolding slack_to slack_on offering_to offering_as
   with_refused refusal e = go (offer_on r id cost period deadline) refl
     where
-      go : (o : Outcome) → offer_on r id cost period deadline ≡ o → no_slack refusal ≡ slack_on (offer_on r id cost period deadline)
+      go : (o : Outcome) → offer_on r id cost period deadline ≡ o → Err refusal ≡ slack_to r id cost period deadline
       go (refused other) f =
-          let same : refusal ≡ other = cc (as_outcome (refused other) f) in
-          ap no_slack same ∙ ap slack_on (sym f)
-      go (accepted model) f = let z : ◌≡◌ {A = ℕ} 0 1 = cc (as_outcome (accepted model) f) in absurd (omega arith)
+          let z : ◌≡◌ {A = Result Offer Refusal} (Err refusal) (Err other) = e ∙ ap offering_as f in
+          let same : refusal ≡ other = cc in
+          ap (λ (x : Refusal). slack_on (refused x)) same ∙ ap slack_on (sym f)
+      go (accepted model) f = let z : Err refusal ≡ offering_as (accepted model) = e ∙ ap offering_as f in cc
 
-  -- What an accepted offer has.
-  pub record Added : Type 0 where
-    pub table : List ℕ
-    pub jobs : List Job
-    pub comes_to : offer_on r id cost period deadline ≡ accepted (Opened r.machine table jobs)
-    pub one_more : WithOneMore r jobs
-    pub in_places : take (r.held + 1) offering.jobs ≡ jobs
-    pub totals_are : offering.totals ≡ totals jobs
+  module _ (entries : length r.table ≡ 32) (places : length r.jobs ≡ 64) (o : Offer) (t : Taken r id cost period deadline entries places o) where
+    abbrev joins : List Job
+    joins = insert (job_due id cost period deadline) (take r.held r.jobs)
 
-  pub with_accepted : offering.answer ≡ Accepted → Added
-  unfolding offering_as totals_in roster_of
-  with_accepted e = go (offer_on r id cost period deadline) refl
-    where
-      go : (o : Outcome) → offer_on r id cost period deadline ≡ o → Added
-      go (refused refusal) f = let z : ◌≡◌ {A = ℕ} 0 1 = cc (as_outcome (refused refusal) f) in absurd (omega arith)
-      go (accepted Closed) f = absurd ((planner.offers id cost period deadline).some_machine r f)
-      go (accepted (Opened M table jobs)) f =
-          let rule = (planner.offers id cost period deadline).one_more r entries places M table jobs f in
-          let made = as_outcome (accepted (Opened M table jobs)) f in
-          record {
-            table = table;
-            jobs = jobs;
-            comes_to = f ∙ ap (λ (q : Machine). accepted (Opened q table jobs)) rule.0;
-            one_more = rule.1;
-            in_places = ap₂ take (sym rule.1.size) (ap (λ (q : Offering). q.jobs) made) ∙ holding jobs;
-            totals_are = ap (λ (q : Offering). q.totals) made;
-          }
+    pub in_places : take (r.held + 1) o.jobs ≡ joins
+    in_places = ap₂ take (sym t.with_one_more.size) t.places_are ∙ holding joins
 
-  module _ (a : Added) where
-    -- As `slack_under` asks for it.
-    pub asked : (
-        InRange r.machine × (r.held + 1 ≤ 64) × Every JobInRange (take (r.held + 1) offering.jobs) × ByRisingId (take (r.held + 1) offering.jobs)
-        ) × ((hyperperiod (take (r.held + 1) offering.jobs) ≤ hyperperiod_limit) × (offering.totals ≡ totals (take (r.held + 1) offering.jobs)))
-    asked =
-        let one = a.one_more in
-        rw a.in_places ((one.machine_range, omega (arith, one.size, one.few), one.job_ranges, one.by_id), (one.within_limit, a.totals_are))
-
-    pub with_it : (result : SlackAnswer) (levels : List ℕ)
-        → result ≡ slack_under r.machine (take (r.held + 1) offering.jobs) (take r.machine.processors levels)
-        → levels ≡ replicate 32 (r.machine.levels - 1) → result ≡ slack_to r id cost period deadline
+    pub with_it : (a : Slacks) → a ≡ slack_under r.machine (take (r.held + 1) o.jobs) (take r.machine.processors (replicate 32 (r.machine.levels - 1)))
+        → Ok a ≡ slack_to r id cost period deadline
     unfolding slack_to slack_on all_at_top
-    with_it result levels e f =
-        let few : r.machine.processors ≤ 32 = a.one_more.machine_range.processors.1 in
-        e
-        ∙ ap₂ (slack_under r.machine) a.in_places
-        (ap (take r.machine.processors) f ∙ take_replicate r.machine.processors 32 (r.machine.levels - 1) few)
-        ∙ ap slack_on (sym a.comes_to)
+    with_it a e =
+        let few : r.machine.processors ≤ 32 = t.with_one_more.machine_range.processors.1 in
+        ap Ok (e ∙ ap₂ (slack_under r.machine) in_places (take-replicate r.machine.processors 32 (r.machine.levels - 1) few)) ∙ ap slack_on (sym t.onto)

@@ -19,7 +19,6 @@ use Rattle.growing.proofs.Works.{Given, work_most, demand_more, demand_last}
 use Rattle.slack.specs.declared.Slack.{Slack}
 use Rattle.slack.specs.Slack.{slack_of, difference, slack_at, one_up_to, ticks_of, remainders_of}
 use Rattle.slack.proofs.Lists.{up_to_set}
-use Rattle.refusals.specs.declared.Answer.TheVariants.{Accepted}
 use Rattle.slack_calls.specs.Slacks.{slack_under}
 
 -- The speed of the next processor.
@@ -156,9 +155,9 @@ module _ (M : Machine) (jobs : List Job) (given : Given M jobs) (plan : List ℕ
 
   -- After the last test.
   pub walk_end : (ticks : List ℤ) (remainders : List ℕ) (supply taken : ℕ) (job : Job) (i : ℕ) → Walked M jobs plan ticks remainders supply taken job i → i ≡ M.processors
-      → record { answer = Accepted; ticks = ticks; remainders = remainders } ≡ slack_under M jobs plan
+      → record { ticks = ticks; remainders = remainders } ≡ slack_under M jobs plan
   unfolding slack_under ticks_of remainders_of
   walk_end ticks remainders supply taken job i k e =
-      ap₂ (λ (t : List ℤ) (r : List ℕ). record { answer = Accepted; ticks = t; remainders = r })
+      ap₂ (λ (t : List ℤ) (r : List ℕ). record { ticks = t; remainders = r })
       (k.ticks_are ∙ ap (λ (n : ℕ). one_up_to (ticks_at M jobs plan) n ++ replicate (32 - n) (pos 0)) e)
       (k.remainders_are ∙ ap (λ (n : ℕ). one_up_to (remainder_at M jobs plan) n ++ replicate (32 - n) 0) e)

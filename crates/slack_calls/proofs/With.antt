@@ -7,6 +7,7 @@ use mathlib.Core.Logic.{◌↔◌}
 use mathlib.Core.Bool.{Bool, true, false, true≢false}
 use mathlib.Core.List.{List, ◌++◌}
 use lib.IntN.{ℤ, pos, sub_ℕ}
+use Rattle.std.specs.Prelude.{Result, Ok}
 use lib.ListN.{length, get_or, replicate, length-append, length-replicate, get_or-append}
 use lib.Seq.{ext_get_or, get_or-append-add}
 use lib.Signed.{◌<ℤ◌, <ℤ_irrefl}
@@ -32,8 +33,8 @@ use Rattle.refusals.specs.declared.Refusal.TheVariants as refusal
 use Rattle.refusals.proofs.Results.{number_rule}
 use Rattle.refusals.specs.Numbers.{refusal_number, number_of}
 use Rattle.filing.proofs.Sound.{all_alike}
-use Rattle.slack_calls.specs.declared.SlackAnswer.{SlackAnswer}
-use Rattle.slack_calls.specs.Slacks.{slack_under, no_slack, slack_on, slack_with, slack_to}
+use Rattle.slack_calls.specs.declared.Slacks.{Slacks}
+use Rattle.slack_calls.specs.Slacks.{slack_under, ticks_in, remainders_in, slack_on, slack_with, slack_to}
 use Rattle.slack_calls.specs.Claims.{number_in, WithRule}
 
 -- ---- Lists with one value after their end
@@ -50,7 +51,7 @@ module _ (M : Machine) (in_range_law : InRange M) (jobs : List Job) where
   top_rule : TopRule M (hyperperiod jobs) (works jobs)
   top_rule = slacks.at_top M in_range_law.processors.0 in_range_law.levels.0 (top_some M in_range_law) (hyperperiod jobs) (works jobs)
 
-  abbrev answer : SlackAnswer
+  abbrev answer : Slacks
   answer = slack_under M jobs (all_at_top M)
 
   ticks_size : length answer.ticks ≡ 32
@@ -113,13 +114,13 @@ pub record Given (o admitted : Outcome) : Type 0 where
   pub as_admission : (outcome_number admitted ≡ 17 → ⊥) → number_in (slack_on o) ≡ outcome_number admitted
   pub not_for_17 : outcome_number admitted ≡ 17 → number_in (slack_on o) ≡ 0
   pub number : number_in (slack_on o) ≡ outcome_number o
-  pub ticks_size : length (slack_on o).ticks ≡ 32
-  pub zeros : (number_in (slack_on o) ≡ 0 → ⊥) → (slack_on o).ticks ≡ replicate 32 (pos 0)
-  pub no_remainder : (slack_on o).remainders ≡ replicate 32 0
-  pub short : ((k : ℕ) × (get_or (slack_on o).ticks k (pos 0) <ℤ pos 0)) ↔ (outcome_number admitted ≡ 17)
+  pub ticks_size : length (ticks_in (slack_on o)) ≡ 32
+  pub zeros : (number_in (slack_on o) ≡ 0 → ⊥) → ticks_in (slack_on o) ≡ replicate 32 (pos 0)
+  pub no_remainder : remainders_in (slack_on o) ≡ replicate 32 0
+  pub short : ((k : ℕ) × (get_or (ticks_in (slack_on o)) k (pos 0) <ℤ pos 0)) ↔ (outcome_number admitted ≡ 17)
 
 given_refused : (reason : Refusal) → (outcome_number (refused reason) ≡ 17 → ⊥) → Given (refused reason) (refused reason)
-unfolding slack_on no_slack outcome_number number_of
+unfolding slack_on outcome_number number_of
 given_refused reason other = record {
   as_admission = λ n. refl;
   not_for_17 = λ e. absurd (other e);
@@ -191,33 +192,33 @@ module _ (id cost period deadline : ℕ) where
     more = insert (job_due id cost period deadline) jobs
 
     given_ticks : (o : Outcome) → offer (Opened M table jobs) id cost period deadline ≡ o → number_in (slack_on o) ≡ 0
-        → slack_on (offer (Opened M table jobs) id cost period deadline) ≡ slack_under M more (all_at_top M)
-    unfolding slack_on no_slack
-    given_ticks (refused reason) e z = absurd (number_rule.never_0 reason (sym (number_rule.refused reason) ∙ z))
+        → slack_on (offer (Opened M table jobs) id cost period deadline) ≡ Ok (slack_under M more (all_at_top M))
+    unfolding slack_on
+    given_ticks (refused reason) e z = absurd (number_rule.never_0 reason (sym (number_rule.refused Slacks reason) ∙ z))
     given_ticks (accepted next) e z = ap slack_on (added M table jobs next e)
 
     ticks_at_law : number_in (slack_with (Opened M table jobs) id cost period deadline) ≡ 0 → (k : ℕ) → k < M.processors
-        → get_or (slack_with (Opened M table jobs) id cost period deadline).ticks k (pos 0)
+        → get_or (ticks_in (slack_with (Opened M table jobs) id cost period deadline)) k (pos 0)
         ≡ sub_ℕ (suc k * hyperperiod more) (demand M (hyperperiod more) (works more) (suc k))
     unfolding slack_with
     ticks_at_law z k h =
-        ap (λ (a : SlackAnswer). get_or a.ticks k (pos 0)) (given_ticks (offer (Opened M table jobs) id cost period deadline) refl z)
+        ap (λ (a : Result Slacks Refusal). get_or (ticks_in a) k (pos 0)) (given_ticks (offer (Opened M table jobs) id cost period deadline) refl z)
         ∙ tick_is M kept.0.machine_range more k h
         ∙ (top_rule M kept.0.machine_range more).ticks (suc k) h
 
     zeros_after : (o : Outcome) → offer (Opened M table jobs) id cost period deadline ≡ o → (k : ℕ) → M.processors ≤ k
-        → get_or (slack_on (offer (Opened M table jobs) id cost period deadline)).ticks k (pos 0) ≡ pos 0
-    unfolding slack_on no_slack
+        → get_or (ticks_in (slack_on (offer (Opened M table jobs) id cost period deadline))) k (pos 0) ≡ pos 0
+    unfolding slack_on
     zeros_after (refused reason) e k h =
-        ap (λ (o : Outcome). get_or (slack_on o).ticks k (pos 0)) e ∙ all_alike (pos 0) 32 k
+        ap (λ (o : Outcome). get_or (ticks_in (slack_on o)) k (pos 0)) e ∙ all_alike (pos 0) 32 k
     zeros_after (accepted next) e k h =
-        ap (λ (o : Outcome). get_or (slack_on o).ticks k (pos 0)) (added M table jobs next e) ∙ tick_after M kept.0.machine_range more k h
+        ap (λ (o : Outcome). get_or (ticks_in (slack_on o)) k (pos 0)) (added M table jobs next e) ∙ tick_after M kept.0.machine_range more k h
 
-  abbrev TicksAt : Machine → List Job → SlackAnswer → Type 0
+  abbrev TicksAt : Machine → List Job → Result Slacks Refusal → Type 0
   TicksAt M jobs a =
       let more = insert (job_due id cost period deadline) jobs in
       number_in a ≡ 0 → (k : ℕ) → k < M.processors
-      → get_or a.ticks k (pos 0) ≡ sub_ℕ (suc k * hyperperiod more) (demand M (hyperperiod more) (works more) (suc k))
+      → get_or (ticks_in a) k (pos 0) ≡ sub_ℕ (suc k * hyperperiod more) (demand M (hyperperiod more) (works more) (suc k))
 
   pub with_rule : (model : Model) → Kept model → WithRule model id cost period deadline
   unfolding slack_with slack_to
@@ -235,7 +236,7 @@ module _ (id cost period deadline : ℕ) where
         ticks_at_law = λ M table jobs e.
             subst (λ (m : Model). TicksAt M jobs (slack_on (offer m id cost period deadline))) (sym e) (ticks_at_law M table jobs (subst Kept e kept));
         zeros_after = λ M table jobs e k h.
-            subst (λ (m : Model). get_or (slack_on (offer m id cost period deadline)).ticks k (pos 0) ≡ pos 0) (sym e)
+            subst (λ (m : Model). get_or (ticks_in (slack_on (offer m id cost period deadline))) k (pos 0) ≡ pos 0) (sym e)
             (zeros_after M table jobs (subst Kept e kept) (offer (Opened M table jobs) id cost period deadline) refl k h);
         short = g.short;
       }

@@ -1,5 +1,5 @@
 -- What is proved of the slack calls: `SlackCalls` is all of it. Its proof is proofs/Results.antt.
-use Rattle.std.specs.Prelude.{ℕ, suc, ◌+◌, ◌*◌, ◌≤◌, ◌<◌, ◌≡◌, ◌↔◌, List, [], ◌∷◌, ◌++◌, pos, negsuc, length, take, drop, get_or, replicate, ◌≤ℤ◌, ◌<ℤ◌}
+use Rattle.std.specs.Prelude.{ℕ, suc, ◌+◌, ◌*◌, ◌≤◌, ◌<◌, ◌≡◌, ◌↔◌, List, [], ◌∷◌, ◌++◌, Result, Ok, Err, pos, negsuc, length, take, drop, get_or, replicate, ◌≤ℤ◌, ◌<ℤ◌}
 use Rattle.std.proofs.Math.IntN.{sub_ℕ}
 use Rattle.gmf.specs.declared.Machine.{Machine}
 use Rattle.gmf.specs.declared.Job.{Job}
@@ -16,6 +16,7 @@ use Rattle.planner.specs.Model.{Model, Closed, Opened, Admit, step}
 use Rattle.planner.specs.Roster.{empty_roster, roster_of}
 use Rattle.planner.specs.Calls.{outcome_number}
 use Rattle.planner.specs.Claims.{Kept, roster_with, example_model}
+use Rattle.refusals.specs.declared.Refusal.{Refusal}
 use Rattle.refusals.specs.declared.Refusal.TheVariants.{Damaged, NoMachine, JobNumbers, IdHeld, PlacesFull, HyperperiodTooLong}
 use Rattle.refusals.specs.Numbers.{number_of}
 use Rattle.filing.specs.Claims.{ReplyRule}

@@ -1,5 +1,5 @@
 -- `frame_kinds::power` meets its contract: 4 to 128 bytes in fours.
-use mathlib.Core.Path.{◌≡◌, refl, ◌∙◌}
+use mathlib.Core.Path.{◌≡◌, refl}
 use mathlib.Core.Logic.{⊎_elim}
 use lib.ListN.{length, length-set}
 use native.Mathlib.Omega.{arith}
@@ -9,12 +9,11 @@ use Rattle.frame_kinds.proofs.Readings.{power_wrong, power_right}
 use Rattle.frame_kinds.proofs.power.Goals as goal
 
 pub returns-in_default : goal.returns-in_default
-returns-in_default c = c.alone.ensures ∙ power_wrong _ (λ p. omega (arith, p.2))
+returns-in_default c = power_wrong _ (λ p. omega (arith, p.2))
 
 pub returns-then-count-eq0 : goal.returns-then-count-eq0
 returns-then-count-eq0 c =
-    c.alone-then-count-eq0.ensures
-    ∙ power_wrong _ (λ p. ⊎_elim (λ none. omega (arith, p.0)) (λ many. omega (arith, p.1, many.1)) c.then-count-eq0.either)
+    power_wrong _ (λ p. ⊎_elim (λ none. omega (arith, p.0)) (λ many. omega (arith, p.1, many.1)) c.then-count-eq0.either)
 
 pub loop-i-init : goal.loop-i-init
 unfolding numbers_from

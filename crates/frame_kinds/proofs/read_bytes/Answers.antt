@@ -1,41 +1,38 @@
 -- `frame_kinds::read_bytes` meets its contract: one arm for each kind, and one for those that are none.
-use mathlib.Core.Path.{◌≡◌, refl, ap, ◌∙◌}
-use native.Mathlib.Omega.{arith}
+use mathlib.Core.Path.{refl, ap, ◌∙◌}
 use borrow.Author.Rules.{rules}
-use lib.ListN.{get_or}
-use Rattle.frame_kinds.specs.Frames.{kind_of, said_as, said_with, reading_of}
-use Rattle.frame_kinds.proofs.Readings.{no_bytes, some_bytes, unknown_kind}
+use Rattle.frame_kinds.specs.Frames.{kind_of, reading_of}
+use Rattle.frame_kinds.proofs.Readings.{no_bytes, some_bytes, unknown_bytes}
 use Rattle.frame_kinds.proofs.read_bytes.Goals as goal
 
-pub returns-in_default : goal.returns-in_default
-returns-in_default c = c.alone.ensures ∙ no_bytes _ (omega arith)
+pub returns-in_err-kind : goal.returns-in_err-kind
+returns-in_err-kind c = c.from_residual.ensures ∙ no_bytes _ c.in_err-kind.ensures.cases
 
 pub returns-in-1 : goal.returns-in-1
-returns-in-1 c = c.machine.ensures ∙ ap reading_of (some_bytes _ 1 (omega arith) c.in-1.is)
+returns-in-1 c = c.machine.ensures ∙ ap reading_of (some_bytes _ _ _ 1 c.in_ok-kind.ensures.cases.0 c.in-1.is)
 
 pub returns-in-2 : goal.returns-in-2
-returns-in-2 c = c.power.ensures ∙ ap reading_of (some_bytes _ 2 (omega arith) c.in-2.is)
+returns-in-2 c = c.power.ensures ∙ ap reading_of (some_bytes _ _ _ 2 c.in_ok-kind.ensures.cases.0 c.in-2.is)
 
 pub returns-in-3 : goal.returns-in-3
-returns-in-3 c = c.admit.ensures ∙ ap reading_of (some_bytes _ 3 (omega arith) c.in-3.is)
+returns-in-3 c = c.admit.ensures ∙ ap reading_of (some_bytes _ _ _ 3 c.in_ok-kind.ensures.cases.0 c.in-3.is)
 
 pub returns-in-4 : goal.returns-in-4
-returns-in-4 c = c.retire.ensures ∙ ap reading_of (some_bytes _ 4 (omega arith) c.in-4.is)
-
-pub returns-in-6 : goal.returns-in-6
-returns-in-6 c = c.admit_due.ensures ∙ ap reading_of (some_bytes _ 6 (omega arith) c.in-6.is)
+returns-in-4 c = c.retire.ensures ∙ ap reading_of (some_bytes _ _ _ 4 c.in_ok-kind.ensures.cases.0 c.in-4.is)
 
 pub returns-in-5 : goal.returns-in-5
 unfolding kind_of
-returns-in-5 c = c.wanted.ensures 5 refl ∙ ap reading_of (some_bytes _ 5 (omega arith) c.in-5.is)
+returns-in-5 c = c.wanted.ensures 5 refl ∙ ap reading_of (some_bytes _ _ _ 5 c.in_ok-kind.ensures.cases.0 c.in-5.is)
+
+pub returns-in-6 : goal.returns-in-6
+returns-in-6 c = c.admit_due.ensures ∙ ap reading_of (some_bytes _ _ _ 6 c.in_ok-kind.ensures.cases.0 c.in-6.is)
 
 pub returns-in-7 : goal.returns-in-7
 unfolding kind_of
-returns-in-7 c = c.wanted-in-7.ensures 7 refl ∙ ap reading_of (some_bytes _ 7 (omega arith) c.in-7.is)
+returns-in-7 c = c.wanted-in-7.ensures 7 refl ∙ ap reading_of (some_bytes _ _ _ 7 c.in_ok-kind.ensures.cases.0 c.in-7.is)
 
 pub returns-in-0 : goal.returns-in-0
-returns-in-0 c =
-    let frame = c.args.bytes.now in
-    let kind = get_or frame 0 0 in
-    let same : reading_of (said_as kind _) ≡ reading_of (said_with frame) = ap reading_of (some_bytes frame kind (omega arith) refl) in
-    c.alone-in-0.ensures ∙ unknown_kind kind _ (search rules) ∙ same
+returns-in-0 c = unknown_bytes _ _ _ c.in_ok-kind.ensures.cases.0 (search rules)
+
+pub returns-in-0-2 : goal.returns-in-0-2
+returns-in-0-2 c = unknown_bytes _ _ _ c.in_ok-kind.ensures.cases.0 (search rules)

@@ -1,10 +1,7 @@
 -- `frame_kinds::wanted` meets its contract: nothing follows the kind.
-use mathlib.Core.Path.{sym, ◌∙◌}
-use Rattle.frame_kinds.proofs.Readings.{bare_right, bare_wrong}
+use mathlib.Core.Path.{◌∙◌}
+use Rattle.frame_kinds.proofs.Readings.{bare_as}
 use Rattle.frame_kinds.proofs.wanted.Goals as goal
 
-pub returns-then-is_empty : goal.returns-then-is_empty
-returns-then-is_empty c kind same = c.alone.ensures ∙ bare_right _ kind _ same (sym c.if-is_empty.ensures)
-
-pub returns-else-is_empty : goal.returns-else-is_empty
-returns-else-is_empty c kind same = c.alone-else-is_empty.ensures ∙ bare_wrong _ kind _ same (sym c.if-is_empty.ensures)
+pub returns : goal.returns
+returns c kind same = c.then_some.ensures ∙ bare_as _ kind _ same _ c.is_empty.ensures

@@ -1,15 +1,17 @@
 -- `frame_reader::read_line` meets its contract: by what was decoded.
-use mathlib.Core.Path.{ap, ◌∙◌}
+use mathlib.Core.Path.{sym, ap, ◌∙◌}
 use native.Mathlib.Omega.{arith}
 use Rattle.frame_kinds.specs.Frames.{reading_of}
 use Rattle.frame_reader.proofs.Readings.{as_said, long_line, wrong_text, right_text}
 use Rattle.frame_reader.proofs.read_line.Goals as goal
 
 pub returns-then-line-gt-LONGEST_LINE : goal.returns-then-line-gt-LONGEST_LINE
-returns-then-line-gt-LONGEST_LINE c = as_said _ _ (c.read_bytes.ensures ∙ ap reading_of (long_line _ (omega arith)))
+unfolding reading_of
+returns-then-line-gt-LONGEST_LINE c = as_said _ _ (ap reading_of (long_line _ (omega arith)))
 
-pub returns-in-Some : goal.returns-in-Some
-returns-in-Some c = as_said _ _ (c.read_bytes-in-Some.ensures ∙ ap reading_of (right_text _ _ c.in-Some.ensures))
+pub returns-in_err-decode : goal.returns-in_err-decode
+unfolding reading_of
+returns-in_err-decode c = as_said _ _ (c.from_residual.ensures ∙ ap reading_of (wrong_text _ (sym c.in_err-decode.ensures)))
 
-pub returns-in-None : goal.returns-in-None
-returns-in-None c = as_said _ _ (c.read_bytes-in-None.ensures ∙ ap reading_of (wrong_text _ c.in-None.ensures))
+pub returns : goal.returns
+returns c = as_said _ _ (c.read_bytes.ensures ∙ ap reading_of (right_text _ _ (sym c.in_ok-decode.ensures)))

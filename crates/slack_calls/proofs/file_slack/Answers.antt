@@ -1,39 +1,52 @@
 -- `slack_calls::file_slack` meets its contract.
-use mathlib.Core.Path.{◌≡◌, refl, sym, ◌∙◌}
-use borrow.Author.Rules.{rules}
-use lib.ListN.{length}
+use Prim.Native.Nat.{ℕ}
+use mathlib.Core.Path.{◌≡◌, refl, sym, ap, ap₂, ◌∙◌}
+use Rattle.std.specs.Prelude.{is_some}
+use Rattle.std.proofs.lemmas.Result.{err_from_is_err_and}
+use Rattle.gmf.specs.declared.Machine.{Machine}
+use Rattle.growing.specs.Plan.{planned}
+use Rattle.planner.specs.Claims.{IsSound}
+use Rattle.planner.proofs.Replies.{share_open, totalled}
+use Rattle.filing.proofs.Replies.{reply_untotalled, reply_open}
+use Rattle.filing.proofs.Sound.{some_plan}
+use Rattle.filing.proofs.Written.{put_at, put_written, put_none}
 use Rattle.slack_calls.specs.Slacks.{slack_filed, slack_reply}
-use Rattle.filing.proofs.Replies.{rule, reply_damaged, reply_closed, reply_open}
+use Rattle.slack_calls.specs.Claims.{slack_length}
+use Rattle.slack_calls.proofs.Filed.{slack_size, line_is, filed_is}
 use Rattle.slack_calls.proofs.file_slack.Goals as goal
 
-pub file-requires : goal.file-requires
-file-requires c =
-    let entries : length c.args.roster.table ≡ 32 = search rules in
-    let places : length c.args.roster.jobs ≡ 64 = search rules in
-    let e = sym c.inspect-condition.ensures ∙ c.in-Open.is in
-    ((rule slack_filed c.args.roster entries places).open_sound _ e, (rule slack_filed c.args.roster entries places).open_totals _ e)
-
-pub returns-in-Damaged : goal.returns-in-Damaged
-unfolding slack_reply
-returns-in-Damaged c =
-    let entries : length c.args.roster.table ≡ 32 = search rules in
-    let places : length c.args.roster.jobs ≡ 64 = search rules in
-    reply_damaged slack_filed c.args.roster entries places c.args.page.now c.args.place
-    (sym c.inspect-condition.ensures ∙ c.in-Damaged.is) _ c.unfiled.ensures refl
-
-pub returns-in-Closed : goal.returns-in-Closed
+pub returns-in_err-share : goal.returns-in_err-share
 unfolding slack_reply slack_filed
-returns-in-Closed c =
-    let entries : length c.args.roster.table ≡ 32 = search rules in
-    let places : length c.args.roster.jobs ≡ 64 = search rules in
-    reply_closed slack_filed c.args.roster entries places c.args.page.now c.args.place refl
-    (sym c.inspect-condition.ensures ∙ c.in-Closed.is) _ c.unfiled-in-Closed.ensures refl
+returns-in_err-share c =
+    let p = err_from_is_err_and c.from_residual.result c.from_residual.ensures.1 in
+    rw (p.1, p.2) (reply_untotalled slack_filed c.args.roster.now c.args.page.now c.args.place refl _ c.in_err-share.ensures)
 
-pub returns-in-Open : goal.returns-in-Open
+pub unwrap-plan-requires : goal.unwrap-plan-requires
+unwrap-plan-requires c =
+    let sound : IsSound c.args.roster.now = (share_open _ _ c.in_ok-share.ensures).0 in
+    ap is_some (c.grow.ensures ∙ ap₂ planned c.in_ok-share.ensures.machine c.in_ok-share.ensures.jobs) ∙ some_plan c.args.roster.now sound
+
+pub returns-then-is_err : goal.returns-then-is_err
 unfolding slack_reply slack_filed
-returns-in-Open c =
-    let entries : length c.args.roster.table ≡ 32 = search rules in
-    let places : length c.args.roster.jobs ≡ 64 = search rules in
-    c.file.ensures
-    ∙ reply_open slack_filed c.args.roster entries places c.args.page.now c.args.place _
-    (sym c.inspect-condition.ensures ∙ c.in-Open.is)
+returns-then-is_err c =
+    let s = c.in_ok-share.ensures in
+    let sound : IsSound c.args.roster.now = (share_open _ _ s).0 in
+    let grown = sym c.unwrap-plan.ensures ∙ c.grow.ensures ∙ ap₂ planned s.machine s.jobs in
+    put_none c.args.page.now c.args.place _ _ _
+    (put_at c.args.page.now c.args.place _ c.write_slack.ensures refl refl (line_is c.args.roster.now sound c.unwrap-plan.result grown c.in_ok-share.share s.machine s.jobs _ c.slack_under-slacks.ensures))
+    (sym c.is_err.ensures.value ∙ c.if-is_err.true)
+    ∙ filed_is c.args.roster.now sound c.args.page.now c.args.place
+    ∙ reply_open slack_filed c.args.roster.now s.entries s.places c.args.page.now c.args.place _ (totalled _ _ s.totals)
+
+pub returns : goal.returns
+unfolding slack_reply slack_filed
+returns c =
+    let s = c.in_ok-share.ensures in
+    let sound : IsSound c.args.roster.now = (share_open _ _ s).0 in
+    let grown = sym c.unwrap-plan.ensures ∙ c.grow.ensures ∙ ap₂ planned s.machine s.jobs in
+    put_written c.args.page.now c.args.place _ _ _ _
+    (put_at c.args.page.now c.args.place _ c.write_slack.ensures refl refl (line_is c.args.roster.now sound c.unwrap-plan.result grown c.in_ok-share.share s.machine s.jobs _ c.slack_under-slacks.ensures))
+    (sym c.is_err.ensures.value ∙ c.if-is_err.false)
+    (ap (λ (M : Machine). slack_length M.processors) s.machine ∙ sym (slack_size _ _ _))
+    ∙ filed_is c.args.roster.now sound c.args.page.now c.args.place
+    ∙ reply_open slack_filed c.args.roster.now s.entries s.places c.args.page.now c.args.place _ (totalled _ _ s.totals)

@@ -93,6 +93,8 @@ returns c =
     let open_at = share_open _ _ c.in_ok-share.ensures in
     let new = job_there _ _ _ _ _ c.in_ok-job.ensures in
     let none = found_none _ _ c.in_ok-share.ensures.jobs _ _ c.in-Err.ensures in
+    let answer =
     offer_more _ entries places open_at.0 _ _ _ _ new.0 _ new.1 none.0 (omega (arith, held, c.if-held-ge-PLACES.false)) _ open_at.1 _ c.with.ensures _
     c.in-Some.is _ _ none.1
-    (put_in_held _ places _ _ _ held (omega (arith, held, c.if-held-ge-PLACES.false)) _ _ c.put_in.ensures)
+    (put_in_held _ places _ _ _ held (omega (arith, held, c.if-held-ge-PLACES.false)) _ _ c.put_in.ensures) in
+    record { entries = entries; places = places; answer = answer }
