@@ -1,12 +1,14 @@
 -- Demand 3, from what holds of one call.
 use Prim.Native.Nat.{ℕ, ◌-◌}
+use Rattle.std.specs.Prelude.{Result}
+use Rattle.refusals.specs.declared.Refusal.{Refusal}
 use mathlib.Core.Path.{◌≡◌, refl, sym, ap, ap₂, subst, ◌∙◌}
 use mathlib.Core.List.{List, [], ◌∷◌, ◌++◌}
 use lib.ListN.{length, replicate}
 use lib.Seq.{take-append_seam}
 use Rattle.gmf.specs.declared.Machine.{Machine}
 use Rattle.gmf.specs.declared.Job.{Job}
-use Rattle.frame_kinds.specs.Frames.{Said, says, refused, kind_of, beside_of, reading_of}
+use Rattle.frame_kinds.specs.Frames.{Said, says, refused, kind_of, reading_of}
 use Rattle.frame_reader.specs.Frames.{said_by}
 use Rattle.planner.specs.declared.Roster.{Roster}
 use Rattle.planner.specs.Model.{Model, Opened}
@@ -17,7 +19,7 @@ use Rattle.planner.proofs.Results.{planner}
 use Rattle.imports.proofs.Results.{importing}
 use Rattle.filing.specs.Plans.{Filed, plan_reply}
 use Rattle.filing.proofs.Results.{files}
-use Rattle.slack_calls.specs.declared.SlackAnswer.{SlackAnswer}
+use Rattle.slack_calls.specs.declared.Slacks.{Slacks}
 use Rattle.slack_calls.specs.Slacks.{slack_reply, slack_to}
 use Rattle.slack_calls.proofs.Results.{slack_calls}
 use Rattle.calls.specs.Lines.{Asked, change, plan, slack, asked_as, asked, reply_as, line_reply}
@@ -54,7 +56,7 @@ module _ (line : List ℕ) where
   asked_by s e = ap (λ (q : Said). asked_as (reading_of q)) e
 
   pub ask_rule : AskRule line
-  unfolding asked_as reading_of kind_of beside_of
+  unfolding asked_as reading_of kind_of
   ask_rule = record {
     unread = λ e. asked_by (refused 5) e;
     machine = λ m L b d e. asked_by (says 1 (m ∷ L ∷ b ∷ d ∷ [])) e;
@@ -212,7 +214,7 @@ module _ (begins : Beginning) (calls : List Call) where
     slack_next = λ M table jobs e.
         subst (λ (r : Roster). SlackNext r M table jobs) (at_end M table jobs e) (slack_next M table jobs (open_kept M table jobs e));
     slack_with_law = slack_calls.with_rule book book_kept;
-    given = λ id cost period deadline. gives id cost period deadline left ∙ ap (λ (a : SlackAnswer). gave a left)
+    given = λ id cost period deadline. gives id cost period deadline left ∙ ap (λ (a : Result Slacks Refusal). gave a left)
         (ap (λ (r : Roster). slack_to r id cost period deadline) ends ∙ (slack_calls.with_rule book book_kept id cost period deadline).follows);
     imports = λ processors list e. (importing.order_rule processors list, importing.follow_rule processors list);
   }

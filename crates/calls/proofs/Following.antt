@@ -1,6 +1,8 @@
 -- A call on the roster of a model that keeps the rules follows the model; so does every list of calls.
 use Prim.Native.Nat.{ℕ}
 use native.Mathlib.Omega.{arith}
+use Rattle.std.specs.Prelude.{Result}
+use Rattle.refusals.specs.declared.Refusal.{Refusal}
 use mathlib.Core.Path.{◌≡◌, refl, sym, ap, ap₂, ◌∙◌}
 use mathlib.Core.List.{List, [], ◌∷◌}
 use Rattle.planner.specs.declared.Roster.{Roster}
@@ -13,7 +15,7 @@ use Rattle.refusals.proofs.Results.{number_rule}
 use Rattle.planner.proofs.Results.{planner}
 use Rattle.filing.specs.Plans.{Filed, filed, plan_reply}
 use Rattle.filing.proofs.Results.{files}
-use Rattle.slack_calls.specs.declared.SlackAnswer.{SlackAnswer}
+use Rattle.slack_calls.specs.declared.Slacks.{Slacks}
 use Rattle.slack_calls.specs.Slacks.{slack_filed, slack_reply}
 use Rattle.slack_calls.proofs.Results.{slack_calls}
 use Rattle.calls.specs.Lines.{Asked, malformed, change, plan, slack, asked, LineReply, reply_as, line_reply}
@@ -71,7 +73,7 @@ module _ (model : Model) (kept : Kept model) where
   call_follows (Slack page place) = slacks page place
   call_follows (SlackWith id cost period deadline) =
       record {
-        reply = ap (λ (given : SlackAnswer). (gave given model).reply) (slack_calls.with_rule model kept id cost period deadline).follows;
+        reply = ap (λ (given : Result Slacks Refusal). (gave given model).reply) (slack_calls.with_rule model kept id cost period deadline).follows;
         next = refl;
         kept = kept;
       }

@@ -4,7 +4,7 @@
 ghost use Rattle.std.specs.Prelude.{◌≡◌, List, [], ℕ, take};
 ghost use Rattle.planner.specs.Model.{ReplaceTable, Admit};
 ghost use Rattle.refusals.specs.Numbers.{refusal_number};
-ghost use Rattle.calls.specs.Lines.{change, asked_as, asked, answered_on, malformed_number, nothing_written, reply_as, line_reply, passed_over};
+ghost use Rattle.calls.specs.Lines.{change, asked_as, asked, wants_frame, answered_on, malformed_number, nothing_written, reply_as, line_reply, passed_over};
 
 use filing::file_plan;
 use frame_kinds::Frame;
@@ -26,7 +26,7 @@ pub fn malformed(roster: &Roster) -> Refusal
 {
     match roster.inspect() {
         Condition::Damaged => Refusal::Damaged,
-        Condition::Closed | Condition::Open(_) => Refusal::Malformed,
+        _ => Refusal::Malformed,
     }
 }
 
@@ -103,12 +103,22 @@ pub fn call_line(roster: Roster, line: &[u8], page: &mut [u8], place: usize) -> 
     call_frame(roster, read_line(line), page, place)
 }
 
+// Whether a frame wants a frame on a page.
+fn wants_frame(frame: &Option<Frame>) -> bool
+    ensures { result ≡ wants_frame (asked_as frame.now) }
+{
+    let Some(frame) = frame else {
+        return false;
+    };
+    matches!(frame, Frame::PlanWanted | Frame::SlackWanted)
+}
+
 // A line of the host's sheet: a wanted frame is passed over, and any other line is a call that is lent no page.
 pub fn host_line(roster: Roster, line: &[u8]) -> LineAnswer
     ensures { answered_on result [] ≡ passed_over roster (asked line.now) }
 {
     let frame = read_line(line);
-    if matches!(frame, Some(Frame::PlanWanted | Frame::SlackWanted)) {
+    if wants_frame(&frame) {
         return LineAnswer {
             answer: Ok(0),
             roster,

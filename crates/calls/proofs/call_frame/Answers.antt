@@ -1,5 +1,5 @@
 -- `calls::call_frame` meets its contract.
-use mathlib.Core.Path.{◌≡◌, sym, ap, ◌∙◌}
+use mathlib.Core.Path.{sym, ap, ◌∙◌}
 use Rattle.std.specs.Prelude.{Option, Some}
 use Rattle.frame_kinds.specs.declared.Frame.{Frame}
 use Rattle.calls.specs.Lines.{asked_as, reply_as}
