@@ -140,7 +140,7 @@ fn read_zeros(rt: &impl Print, kind: u8, n: usize) -> io::Result<()> {
     line[0] = hexadecimal::digit_of(kind / 16);
     line[1] = hexadecimal::digit_of(kind);
     line[end] = b'\n';
-    if matches!(read_line(&line[..=end]).frame, Frame::Malformed) {
+    if read_line(&line[..=end]).is_none() {
         return Ok(());
     }
     println!(rt; "frame {kind} {n}")
@@ -166,7 +166,7 @@ pub fn lengths(rt: &impl Print) -> io::Result<()> {
 // Reads 0400 with a digit more and one byte for the last, and prints the byte and the identifier where that is a frame.
 fn read_digit(rt: &impl Print, byte: u8) -> io::Result<()> {
     let line = [b'0', b'4', b'0', b'0', b'0', byte, b'\n'];
-    if let Frame::Retire { id } = read_line(&line).frame {
+    if let Some(Frame::Retire { id }) = read_line(&line) {
         println!(rt; "digit {byte} {id}")?;
     }
     Ok(())

@@ -1,12 +1,12 @@
 // Frames into pages. A page is printed between bars; it is lent with a dot in each byte.
-use line_writer::Placing;
+use line_writer::NoRoom;
 use std::io;
 
 // The longest page.
 const LONGEST: usize = 580;
 
 // Has a frame written on a page of that length, and prints the reply's number and the whole page.
-fn on_page<F: FnOnce(&mut [u8]) -> Placing>(
+fn on_page<F: FnOnce(&mut [u8]) -> Result<(), NoRoom>>(
     rt: &impl Print,
     length: usize,
     write: F,
@@ -16,8 +16,8 @@ fn on_page<F: FnOnce(&mut [u8]) -> Placing>(
     let mut room = [b'.'; LONGEST];
     let page = &mut room[..length.min(LONGEST)];
     let number = match write(page) {
-        Placing::Written => 0,
-        Placing::NoRoom => 6,
+        Ok(()) => 0,
+        Err(NoRoom) => 6,
     };
     print!(rt; "{number} |")?;
     rt.write_all(page)?;

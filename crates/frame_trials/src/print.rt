@@ -1,25 +1,26 @@
 // What the trials print.
-use frame_kinds::{Frame, Reading};
+use frame_kinds::Frame;
 use std::fmt;
 
-// What was read: the frame with its numbers, and for a power frame all 32 values.
+// What was read: the frame with its numbers, and for a power frame all 32 values; or that there is none.
 #[derive(Clone, Copy)]
-pub struct Said(pub Reading);
+pub struct Said(pub Option<Frame>);
 
 impl fmt::Display for Said {
     fn fmt<W: fmt::Write>(&self, f: &mut fmt::Formatter<W>) -> fmt::Result {
-        let Said(got) = *self;
-        match got.frame {
-            Frame::Malformed => write!(f, "malformed"),
+        let Said(Some(frame)) = *self else {
+            return write!(f, "malformed");
+        };
+        match frame {
             Frame::Machine {
                 processors,
                 levels,
                 lowest,
                 step,
             } => write!(f, "machine {processors} {levels} {lowest} {step}"),
-            Frame::Power { count } => {
+            Frame::Power { count, values } => {
                 write!(f, "power {count}:")?;
-                for value in got.values {
+                for value in values {
                     write!(f, " {value}")?;
                 }
                 Ok(())

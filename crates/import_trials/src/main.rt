@@ -9,6 +9,7 @@ use gmf::Machine;
 use imports::import_machine;
 use inputs::{read_input, room};
 use planner::{Condition, Reply, Roster};
+use refusals::number_of;
 use std::io;
 
 // What a roster is found to be.
@@ -22,7 +23,7 @@ fn condition(roster: Roster) -> u8 {
 
 // Prints what an import replied.
 fn replied(rt: &impl Print, reply: Reply) -> io::Result<()> {
-    let number = reply.answer.number();
+    let number = number_of(&reply.answer);
     let roster = reply.roster;
     let Machine {
         processors,

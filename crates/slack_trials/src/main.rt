@@ -18,7 +18,7 @@ use std::io;
 // Prints the slack with a job.
 fn asked(
     rt: &impl Print,
-    roster: Roster,
+    roster: &Roster,
     id: u16,
     cost: u16,
     period: u16,
@@ -35,15 +35,15 @@ fn asked(
 }
 
 // Prints the slack with the job of an admit frame.
-fn offered(rt: &impl Print, roster: Roster, frame: Frame) -> io::Result<()> {
+fn offered(rt: &impl Print, roster: &Roster, frame: Option<Frame>) -> io::Result<()> {
     match frame {
-        Frame::Admit { id, cost, period } => asked(rt, roster, id, cost, period, period),
-        Frame::AdmitDue {
+        Some(Frame::Admit { id, cost, period }) => asked(rt, roster, id, cost, period, period),
+        Some(Frame::AdmitDue {
             id,
             cost,
             period,
             deadline,
-        } => asked(rt, roster, id, cost, period, deadline),
+        }) => asked(rt, roster, id, cost, period, deadline),
         _ => Ok(()),
     }
 }
@@ -53,9 +53,9 @@ fn answer(rt: &impl Print, sheet: &[u8]) -> io::Result<()> {
     let mut page = [0; 600];
     let mut roster = Roster::empty();
     for line in sheet.split_inclusive(|byte| *byte == b'\n') {
-        let reading = read_line(line);
-        offered(rt, roster, reading.frame)?;
-        roster = call_frame(roster, reading.frame, reading.values, &mut page, 0).roster;
+        let frame = read_line(line);
+        offered(rt, &roster, frame)?;
+        roster = call_frame(roster, frame, &mut page, 0).roster;
     }
     Ok(())
 }

@@ -1,17 +1,22 @@
 // The line of a slack answer.
-use slack_calls::SlackAnswer;
+use refusals::{Refusal, number_of};
+use slack_calls::Slacks;
 use std::fmt;
 
-// The number of an answer and the 32 entries: the ticks and the remainder of each test.
+// The number of an answer and the 32 entries: the ticks and the remainder of each test, zeros where it is refused.
 #[derive(Clone, Copy)]
-pub struct Slack(pub SlackAnswer);
+pub struct Slack(pub Result<Slacks, Refusal>);
 
 impl fmt::Display for Slack {
     fn fmt<W: fmt::Write>(&self, f: &mut fmt::Formatter<W>) -> fmt::Result {
         let Slack(slack) = *self;
-        let number = slack.answer.number();
+        let number = number_of(&slack);
         write!(f, "{number}")?;
-        for (ticks, remainder) in slack.ticks.iter().zip(slack.remainders.iter()) {
+        let slacks = slack.unwrap_or(Slacks {
+            ticks: [0; 32],
+            remainders: [0; 32],
+        });
+        for (ticks, remainder) in slacks.ticks.iter().zip(slacks.remainders.iter()) {
             write!(f, " {ticks} {remainder}")?;
         }
         Ok(())

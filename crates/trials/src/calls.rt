@@ -1,11 +1,12 @@
 // The calls. Each prints its arguments and its answer, and gives back the roster that came back.
 use crate::print::Values;
 use planner::{Reply, Roster};
+use refusals::number_of;
 use std::io;
 
 // The answer's number, and whether the roster changed.
 pub fn told(rt: &impl Print, before: Roster, reply: Reply) -> io::Result<Roster> {
-    let number = reply.answer.number();
+    let number = number_of(&reply.answer);
     let after = reply.roster;
     let changed = if after == before { "" } else { " changed" };
     print!(rt; " {number}{changed}")?;

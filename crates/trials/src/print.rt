@@ -1,6 +1,6 @@
 // What the trials print.
 use gmf::{Job, Machine};
-use place_checks::unused_from;
+use place_checks::unused;
 use planner::{Condition, Roster};
 use power_tables::all_zero;
 use std::{fmt, io};
@@ -63,10 +63,10 @@ fn first_jobs(rt: &impl Print, jobs: [Job; 64], held: usize) -> io::Result<()> {
 // The jobs held, each as id, C, T and D, and what is after them.
 pub fn jobs(rt: &impl Print, roster: &Roster) -> io::Result<()> {
     let jobs = roster.jobs;
-    let held = usize::from(roster.held);
+    let held = usize::from(roster.held).min(64);
     print!(rt; "jobs {held}:")?;
     first_jobs(rt, jobs, held)?;
-    rest(rt, unused_from(jobs, held))
+    rest(rt, unused(&jobs[held..]))
 }
 
 // The cycle of the jobs held and the sum of their works.
