@@ -11,9 +11,9 @@ use Rattle.planner.specs.declared.Reply.{Reply}
 use Rattle.refusals.specs.declared.Refusal.{Refusal}
 use Rattle.refusals.specs.declared.Refusal.TheVariants.{Malformed, Damaged}
 use Rattle.planner.specs.Model as planner
-use Rattle.planner.specs.declared.Condition.TheVariants as condition
-use Rattle.planner.specs.Roster.{well_formed, reply_to, inspected}
+use Rattle.planner.specs.Roster.{well_formed, reply_to}
 use Rattle.refusals.specs.Numbers.{refusal_number, number_of}
+use Rattle.refusals.proofs.Results.{number_rule}
 use Rattle.filing.specs.Plans.{Filed, filed_by}
 use Rattle.calls.specs.declared.LineAnswer.{LineAnswer}
 use Rattle.calls.specs.Lines.{Asked, malformed, change, wants_frame, answered_on, nothing_written, malformed_number, filed_as, reply_as, passed_over}
@@ -28,29 +28,20 @@ pub number_well : {given : Refusal} (r : Roster) → well_formed r ≡ true → 
 unfolding malformed_number
 number_well r e f = ap refusal_number f ∙ rw (e, malformed_number)
 
--- What is not found to break a rule breaks none.
-pub well_unless : (r : Roster) → (inspected r ≡ condition.Damaged → ⊥) → well_formed r ≡ true
-unfolding inspected
-well_unless r n = go (well_formed r) refl
-  where
-    go : (b : Bool) → well_formed r ≡ b → well_formed r ≡ true
-    go true f = f
-    go false f = absurd (n (rw (f, inspected)))
-
 -- ---- Each way to ask
 
 module _ (r : Roster) (ask : Asked) (page : List ℕ) (place : ℕ) where
   pub as_malformed : (refusal : Refusal) → refusal_number refusal ≡ malformed_number r → ask ≡ malformed
       → answered_on record { answer = Err refusal; roster = r } page ≡ reply_as r ask page place
-  unfolding reply_as number_of
+  unfolding reply_as
   as_malformed refusal e a =
-      ap (λ (n : ℕ). record { number = n; roster = r; page = page; count = 0 }) e
+      ap (λ (n : ℕ). record { number = n; roster = r; page = page; count = 0 }) (number_rule.refused ℕ refusal ∙ e)
       ∙ ap (λ (q : Asked). reply_as r q page place) (sym a)
 
   pub as_change : (call : planner.Call) (reply : Reply) (result : LineAnswer)
       → result ≡ record { answer = nothing_written reply.answer; roster = reply.roster } → reply ≡ reply_to r call → ask ≡ change call
       → answered_on result page ≡ reply_as r ask page place
-  unfolding reply_as number_of
+  unfolding reply_as
   as_change call reply result e f a =
       ap (λ (q : LineAnswer). answered_on q page) e
       ∙ without_count reply.answer reply.roster
@@ -59,18 +50,20 @@ module _ (r : Roster) (ask : Asked) (page : List ℕ) (place : ℕ) where
     where
       without_count : (answer : Result (Unit {0}) Refusal) (roster : Roster)
           → answered_on record { answer = nothing_written answer; roster = roster } page ≡ record { number = number_of answer; roster = roster; page = page; count = 0 }
-      without_count (Ok accepted) roster = refl
-      without_count (Err refusal) roster = refl
+      without_count (Ok accepted) roster =
+          ap (λ (n : ℕ). record { number = n; roster = roster; page = page; count = 0 }) (number_rule.accepted 0 ∙ sym (number_rule.accepted accepted))
+      without_count (Err refusal) roster =
+          ap (λ (n : ℕ). record { number = n; roster = roster; page = page; count = 0 })
+              (number_rule.refused ℕ refusal ∙ sym (number_rule.refused (Unit {0}) refusal))
 
   -- A call that files a frame.
   pub as_filed : (given : Result ℕ Refusal) (exit : List ℕ) (reply : Filed) → filed_by given exit ≡ reply
       → reply_as r ask page place ≡ filed_as r reply → answered_on record { answer = given; roster = r } exit ≡ reply_as r ask page place
-  unfolding number_of
   as_filed given exit reply f a = by given ∙ ap (filed_as r) f ∙ sym a
     where
       by : (given : Result ℕ Refusal) → answered_on record { answer = given; roster = r } exit ≡ filed_as r (filed_by given exit)
-      by (Ok count) = refl
-      by (Err refusal) = refl
+      by (Ok count) = ap (λ (n : ℕ). record { number = n; roster = r; page = exit; count = count }) (number_rule.accepted count)
+      by (Err refusal) = ap (λ (n : ℕ). record { number = n; roster = r; page = exit; count = 0 }) (number_rule.refused ℕ refusal)
 
 -- ---- A line of the host's
 
@@ -80,8 +73,10 @@ empty_list (x ∷ xs) e = absurd (omega arith)
 
 module _ (r : Roster) (ask : Asked) where
   pub line_passed : wants_frame ask ≡ true → answered_on record { answer = Ok 0; roster = r } [] ≡ passed_over r ask
-  unfolding passed_over number_of
-  line_passed e = rw (e, passed_over)
+  unfolding passed_over
+  line_passed e =
+      ap (λ (n : ℕ). record { number = n; roster = r; page = []; count = 0 }) (number_rule.accepted 0)
+      ∙ rw (e, passed_over)
 
   pub line_called : wants_frame ask ≡ false → (result : LineAnswer) (lent exit : List ℕ) → answered_on result exit ≡ reply_as r ask lent 0
       → length lent ≡ 0 → length exit ≡ 0 → answered_on result [] ≡ passed_over r ask

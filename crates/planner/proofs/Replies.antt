@@ -60,6 +60,15 @@ module _ (r : Roster) where
       go true f Closed g = let z : ◌≡◌ {A = ℕ} 1 0 = ap which (sym (found true f ∙ ap condition_of g) ∙ e) in absurd (omega arith)
       go true f (Opened M table jobs) g = let z : ◌≡◌ {A = ℕ} 2 0 = ap which (sym (found true f ∙ ap condition_of g) ∙ e) in absurd (omega arith)
 
+  -- What is not found to break a rule breaks none.
+  pub is_well : (inspected r ≡ condition.Damaged → ⊥) → well_formed r ≡ true
+  unfolding inspected
+  is_well n = go (well_formed r) refl
+    where
+      go : (b : Bool) → well_formed r ≡ b → well_formed r ≡ true
+      go true f = f
+      go false f = absurd (n (rw (f, inspected)))
+
   pub is_closed : inspected r ≡ condition.Closed → (well_formed r ≡ true) × (model_of r ≡ Closed)
   unfolding which condition_of
   is_closed e = go (well_formed r) refl (model_of r) refl
