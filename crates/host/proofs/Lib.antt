@@ -1,4 +1,5 @@
 pub mod AcceptanceTrials
+pub mod Cutting
 pub mod Walking
 pub mod Turns
 pub mod Hosting

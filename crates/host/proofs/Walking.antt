@@ -1,14 +1,15 @@
 -- The loop over a host's sheet: how the lines that are left end is how the sheet ends.
-use Prim.Native.Nat.{ℕ, suc, ◌+◌, ◌-◌, ◌≤◌, ◌<◌}
+use Prim.Native.Nat.{ℕ, suc, ◌+◌, ◌≤◌, ◌<◌}
 use native.Mathlib.Numerals.{add-one}
 use native.Mathlib.Omega.{arith}
-use mathlib.Core.Path.{◌≡◌, refl, sym, ap, subst, ◌∙◌}
+use mathlib.Core.Path.{◌≡◌, refl, sym, ap, ap₂, subst, ◌∙◌}
 use mathlib.Core.Bool.{Bool, true, false}
 use mathlib.Core.List.{List, [], ◌∷◌}
 use Rattle.std.specs.Prelude.{Ok, Err}
 use borrow.Author.Tests.{le-leb, lt-leb, eq-eqb, ne_eqb}
-use lib.ListN.{length, take, drop}
-use Rattle.frame_reader.specs.Lines.{lines_of, line_end}
+use lib.ListN.{length}
+use Rattle.std.proofs.lemmas.List.{nil_from_length}
+use Rattle.frame_reader.specs.Lines.{lines_of}
 use Rattle.frame_reader.proofs.Results.{reads}
 use Rattle.planner.specs.declared.Roster.{Roster}
 use Rattle.planner.specs.Model.{Model, Closed}
@@ -106,16 +107,22 @@ module _ (model : Model) (number : ℕ) (line : List ℕ) (lines : List (List �
 -- ---- The loop
 
 module _ (sheet : List ℕ) where
-  -- The roster is that of a model, from which the lines that are left end as the sheet does.
-  pub record Walking (roster : Roster) (at line : ℕ) : Type 0 where
+  -- The roster is that of a model, from which the lines that are left end as the sheet does; each line before them has a byte.
+  pub record Walking (roster : Roster) (rest : List ℕ) (line : ℕ) : Type 0 where
     pub model : Model
     pub kept : Kept model
     pub carried : roster ≡ roster_of model
-    pub same : walked Closed 1 (lines_of sheet) ≡ walked model (suc line) (lines_of (drop at sheet))
-    pub counted : line ≤ at
+    pub same : walked Closed 1 (lines_of sheet) ≡ walked model (suc line) (lines_of rest)
+    pub counted : line + length rest ≤ length sheet
 
-  pub walk_begin : (roster : Roster) → roster ≡ empty_roster → Walking roster 0 0
-  walk_begin roster e = record { model = Closed; kept = tt; carried = e ∙ sym planner.begins; same = refl; counted = omega arith }
+  pub walk_begin : (roster : Roster) (rest : List ℕ) (line : ℕ) → roster ≡ empty_roster → rest ≡ sheet → line ≡ 0 → Walking roster rest line
+  walk_begin roster rest line e all none = record {
+    model = Closed;
+    kept = tt;
+    carried = e ∙ sym planner.begins;
+    same = ap₂ (λ (n : ℕ) (s : List ℕ). walked Closed (suc n) (lines_of s)) (sym none) (sym all);
+    counted = omega (arith, ap length all, none);
+  }
 
   -- How the sheet ends, of allowed length.
   module _ (short : length sheet ≤ 65536) (w : Walked) (e : walked Closed 1 (lines_of sheet) ≡ w) where
@@ -142,27 +149,22 @@ module _ (sheet : List ℕ) where
   unfolding end_number refused_line
   too_long h refusal n = rw (lt-leb (length sheet) 65536 h, end_number, refused_line) (n, refl)
 
-  module _ (short : length sheet ≤ 65536) (roster : Roster) (at line : ℕ) (so_far : Walking roster at line) where
-    pub walk_ended : length sheet ≤ at → EndsAs sheet (Ok roster)
+  module _ (short : length sheet ≤ 65536) (roster : Roster) (rest : List ℕ) (line : ℕ) (so_far : Walking roster rest line) where
+    pub walk_ended : length rest ≡ 0 → EndsAs sheet (Ok roster)
     unfolding walked calls_from refused_from replies end last_number
     walk_ended h =
-        ends_at short _ (so_far.same ∙ ap (λ ls. walked so_far.model (suc line) ls) ((reads.line_rule sheet).none at h).0) roster refl refl so_far.carried
+        let none : rest ≡ [] = nil_from_length rest h in
+        ends_at short _ (so_far.same ∙ ap (λ ls. walked so_far.model (suc line) ls) (ap lines_of none ∙ ((reads.line_rule []).none 0 (omega arith)).0)) roster refl refl so_far.carried
 
-    module _ (inside : at < length sheet) (next : ℕ) (next_is : next ≡ line_end sheet at) (made : LineAnswer)
-        (e : answered_on made [] ≡ passed_over roster (asked (take (next - at) (drop at sheet)))) where
-      abbrev first : List ℕ
-      first = take (next - at) (drop at sheet)
-
+    module _ (first next : List ℕ) (split : lines_of rest ≡ first ∷ lines_of next) (shorter : length next < length rest) (made : LineAnswer)
+        (e : answered_on made [] ≡ passed_over roster (asked first)) where
       abbrev model : Model
       model = so_far.model
 
-      split : lines_of (drop at sheet) ≡ first ∷ lines_of (drop next sheet)
-      split = (reads.line_rule sheet).next at inside ∙ ap (λ (k : ℕ). take (k - at) (drop at sheet) ∷ lines_of (drop k sheet)) (sym next_is)
+      moved : suc line + length next ≤ length sheet
+      moved = omega (arith, so_far.counted)
 
-      moved : suc line ≤ next
-      moved = let f = (reads.line_rule sheet).further at inside in omega (arith, f.0, so_far.counted)
-
-      so_split : walked Closed 1 (lines_of sheet) ≡ walked model (suc line) (first ∷ lines_of (drop next sheet))
+      so_split : walked Closed 1 (lines_of sheet) ≡ walked model (suc line) (first ∷ lines_of next)
       so_split = so_far.same ∙ ap (λ ls. walked model (suc line) ls) split
 
       -- A wanted frame is passed over: nothing has changed.
@@ -176,7 +178,7 @@ module _ (sheet : List ℕ) where
           model = model;
           kept = so_far.kept;
           carried = ap (λ (q : LineReply). q.roster) passes ∙ so_far.carried;
-          same = so_split ∙ walked_pass model (suc line) first (lines_of (drop next sheet)) wants;
+          same = so_split ∙ walked_pass model (suc line) first (lines_of next) wants;
           counted = moved;
         }
 
@@ -206,14 +208,14 @@ module _ (sheet : List ℕ) where
           model = done.next;
           kept = next_kept;
           carried = roster_is;
-          same = so_split ∙ walked_next model (suc line) first (lines_of (drop next sheet)) calls (sym number_is ∙ z);
+          same = so_split ∙ walked_next model (suc line) first (lines_of next) calls (sym number_is ∙ z);
           counted = moved;
         }
 
         stop_called : (refusal : Refusal) → made.answer ≡ Err refusal → EndsAs sheet (Err (record { refusal = refusal; line = suc line }))
         stop_called refusal err =
             let is : number_of made.answer ≡ refusal_number refusal = ap number_of err ∙ number_rule.refused _ refusal in
-            stops_at short _ (so_split ∙ walked_stop model (suc line) first (lines_of (drop next sheet)) calls (λ z. number_rule.never_0 refusal (sym is ∙ number_is ∙ z)))
+            stops_at short _ (so_split ∙ walked_stop model (suc line) first (lines_of next) calls (λ z. number_rule.never_0 refusal (sym is ∙ number_is ∙ z)))
             refusal (suc line) (sym is ∙ number_is) refl
 
       pub walk_next : (count : ℕ) → made.answer ≡ Ok count → (line' : ℕ) → line' ≡ line + 1 → Walking made.roster next line'

@@ -13,7 +13,6 @@ ghost use Rattle.host.specs.Imports.{imported_on};
 
 use calls::host_line;
 use filing::file_plan;
-use frame_reader::line_end;
 use frame_writer::{write_machine, write_refusal};
 use imports::find_machine;
 use line_writer::NoRoom;
@@ -35,15 +34,13 @@ fn read_lines(sheet: &[u8]) -> Result<Roster, RefusedLine>
     ensures { EndsAs sheet.now result }
 {
     let mut roster = Roster::empty();
-    let mut at = 0;
-    let mut line: u32 = 0;
-    while at < sheet.len() {
-        let next = line_end(sheet, at);
-        let made = host_line(roster, &sheet[at..next]);
-        at = next;
-        line += 1;
+    for (before, line) in sheet.split_inclusive(|byte| *byte == b'\n').enumerate() {
+        let made = host_line(roster, line);
         if let Err(refusal) = made.answer {
-            return Err(RefusedLine { refusal, line });
+            return Err(RefusedLine {
+                refusal,
+                line: before as u32 + 1,
+            });
         }
         roster = made.roster;
     }

@@ -1,11 +1,8 @@
 -- `host::read_lines` meets its contract.
-use Prim.Native.Nat.{◌-◌, ◌≤◌}
-use lib.ListN.{length}
+use Rattle.std.specs.Iterator.Adapters.{enumerate_source, enumerate_count}
+use Rattle.std.specs.Slice.Iter.{split_inclusive_rest}
 use Rattle.host.proofs.Walking.{Walking}
 use Rattle.host.proofs.read_lines.Given as goal
 
-abbrev pub invariant-loop-at : goal.invariant-loop-at
-invariant-loop-at l = Walking l.sheet l.roster l.at l.line × (l.at ≤ length l.sheet)
-
-abbrev pub decreases-loop-at : goal.decreases-loop-at
-decreases-loop-at l = length l.sheet - l.at
+abbrev pub invariant-loop-before : goal.invariant-loop-before
+invariant-loop-before l = Walking l.sheet l.roster (split_inclusive_rest (enumerate_source l.before-iterator)) (enumerate_count l.before-iterator)
