@@ -1,16 +1,13 @@
 -- A page filled line by line, as the code fills it.
-use Rattle.std.proofs.Common.{◌≡◌, ℕ, ◌+◌, ◌<◌, ◌≤◌, ◌⊎◌, List, length, sym, refl, ap, ◌∙◌, subst, ap₂, inl, le-ltb, lt-ltb, eq-eqb, ne_eqb, le-leb}
+use Rattle.std.proofs.Common.{◌≡◌, ℕ, ◌+◌, ◌<◌, ◌≤◌, ◌⊎◌, List, Option, Some, None, is_some, Result, Ok, Err, length, sym, refl, ap, ◌∙◌, subst, ap₂, inl, le-ltb, lt-ltb, ne_eqb, le-leb}
 use borrow.Author.Tests.{lt-leb}
+use mathlib.Core.Bool.{false, false≢true}
 use Rattle.hexadecimal.specs.Text.{line_of}
 use Rattle.frame_kinds.specs.declared.Frame.{Frame}
-use Rattle.frame_kinds.specs.declared.Frame.TheVariants as frame
-use Rattle.frame_kinds.specs.declared.Reading.{Reading}
 use Rattle.frame_kinds.specs.Frames.{reading_of}
 use Rattle.frame_reader.specs.Frames.{said_by}
 use Rattle.frame_writer.specs.Frames.{refusal_bytes}
 use Rattle.planner.specs.declared.Roster.{Roster}
-use Rattle.refusals.specs.declared.Answer.{Answer}
-use Rattle.refusals.specs.declared.Answer.TheVariants.{Accepted, Refused}
 use Rattle.refusals.specs.declared.Refusal.{Refusal}
 use Rattle.refusals.specs.Numbers.{refusal_number, number_of}
 use Rattle.refusals.proofs.Results.{number_rule}
@@ -19,7 +16,9 @@ use Rattle.filing.proofs.Results.{files}
 use Rattle.slack_calls.proofs.Results.{slack_calls}
 use Rattle.calls.specs.declared.LineAnswer.{LineAnswer}
 use Rattle.desk.specs.declared.Desk.{Desk}
-use Rattle.calls.specs.Lines.{Asked, malformed, change, plan, slack, asked_as, asked, LineReply, answered_on, malformed_number, reply_as, line_reply}
+use Rattle.calls.proofs.Asking.{as_malformed}
+use Rattle.calls.proofs.Standing.{Stands, after_line}
+use Rattle.calls.specs.Lines.{Asked, malformed, change, plan, slack, asked_as, asked, LineReply, count_in, answered_on, malformed_number, reply_as, line_reply}
 use Rattle.sheets.specs.Sheets.{longest_frame}
 use Rattle.desk.specs.Pages.{settled, desk_line, filled_on, fill_too_long}
 
@@ -34,29 +33,30 @@ module _ (desk : Desk) (size : ℕ) (page : List ℕ) where
   unfolding fill_too_long
   too_long_small h s = rw (lt-ltb desk.at size h, lt-leb longest_frame (length page) s, fill_too_long)
 
-  pub too_long_put : desk.at < size → longest_frame ≤ length page → (number line : ℕ) → line ≡ 0 → number ≡ 5
-      → (count : ℕ) (exit : List ℕ) → count ≡ (put_on page 0 (line_of (refusal_bytes line number))).count
-      → exit ≡ (put_on page 0 (line_of (refusal_bytes line number))).page
+  pub too_long_put : desk.at < size → longest_frame ≤ length page → (number : ℕ) → number ≡ 5
+      → (count : ℕ) (exit : List ℕ) → count ≡ (put_on page 0 (line_of (refusal_bytes 0 number))).count
+      → exit ≡ (put_on page 0 (line_of (refusal_bytes 0 number))).page
       → filled_on record { desk = record { roster = desk.roster; at = size; line = desk.line }; end = count } exit ≡ fill_too_long desk size page
   unfolding fill_too_long
-  too_long_put h s number line l n count exit e f =
+  too_long_put h s number n count exit e f =
       rw (lt-ltb desk.at size h, le-leb longest_frame (length page) s, fill_too_long)
       (ap₂ (λ (k : ℕ) (q : List ℕ). record { desk = record { roster = desk.roster; at = size; line = desk.line }; page = q; end = k }) e f
-      ∙ ap₂ (λ (a b : ℕ). record {
+      ∙ ap (λ (k : ℕ). record {
         desk = record { roster = desk.roster; at = size; line = desk.line };
-        page = (put_on page 0 (line_of (refusal_bytes a b))).page;
-        end = (put_on page 0 (line_of (refusal_bytes a b))).count;
-      }) l n)
+        page = (put_on page 0 (line_of (refusal_bytes 0 k))).page;
+        end = (put_on page 0 (line_of (refusal_bytes 0 k))).count;
+      }) n)
 
 -- ---- One line
 
-module _ (number place : ℕ) (answer : Answer) (count : ℕ) (page : List ℕ) where
-  abbrev reply : ℕ → Roster → LineReply
-  reply n r = record { number = n; roster = r; page = page; count = count }
+module _ (number place : ℕ) (page : List ℕ) where
+  abbrev reply : Result ℕ Refusal → Roster → LineReply
+  reply answer r = record { number = number_of answer; roster = r; page = page; count = count_in answer }
 
-  pub settled_accepted : answer ≡ Accepted → (r : Roster)
-      → record { roster = r; page = page; end = place + count } ≡ settled number place (reply (number_of answer) r)
-  settled_accepted a r = rw (eq-eqb (number_of answer) 0 (ap number_of a ∙ number_rule.accepted), settled)
+  pub settled_accepted : (answer : Result ℕ Refusal) (count : ℕ) → answer ≡ Ok count → (r : Roster)
+      → record { roster = r; page = page; end = place + count } ≡ settled number place (reply answer r)
+  unfolding number_of
+  settled_accepted answer count a r = ap (λ (q : Result ℕ Refusal). settled number place (reply q r)) (sym a)
 
   refused_as : (n : ℕ) → (n ≡ 0 → ⊥) → (r : Roster)
       → record {
@@ -64,21 +64,18 @@ module _ (number place : ℕ) (answer : Answer) (count : ℕ) (page : List ℕ) 
         page = (put_on page place (line_of (refusal_bytes number n))).page;
         end = place + (put_on page place (line_of (refusal_bytes number n))).count;
       }
-      ≡ settled number place (reply n r)
+      ≡ settled number place record { number = n; roster = r; page = page; count = 0 }
   refused_as n h r = rw (ne_eqb n 0 h, settled)
 
-  pub settled_refused : (refusal : Refusal) → answer ≡ Refused refusal → (given written : ℕ) (exit : List ℕ) → given ≡ refusal_number refusal
-      → written ≡ (put_on page place (line_of (refusal_bytes number given))).count → exit ≡ (put_on page place (line_of (refusal_bytes number given))).page
-      → (r : Roster) → record { roster = r; page = exit; end = place + written } ≡ settled number place (reply (number_of answer) r)
-  settled_refused refusal a given written exit g n p r =
-      let is = ap number_of a ∙ number_rule.refused refusal in
+  pub settled_refused : (answer : Result ℕ Refusal) (refusal : Refusal) → answer ≡ Err refusal → (written : ℕ) (exit : List ℕ)
+      → written ≡ (put_on page place (line_of (refusal_bytes number (refusal_number refusal)))).count
+      → exit ≡ (put_on page place (line_of (refusal_bytes number (refusal_number refusal)))).page
+      → (r : Roster) → record { roster = r; page = exit; end = place + written } ≡ settled number place (reply answer r)
+  unfolding number_of
+  settled_refused answer refusal a written exit n p r =
       ap₂ (λ (k : ℕ) (q : List ℕ). record { roster = r; page = q; end = place + k }) n p
-      ∙ ap (λ (k : ℕ). record {
-        roster = r;
-        page = (put_on page place (line_of (refusal_bytes number k))).page;
-        end = place + (put_on page place (line_of (refusal_bytes number k))).count;
-      }) (g ∙ sym is)
-      ∙ refused_as (number_of answer) (λ z. number_rule.never_0 refusal (sym is ∙ z)) r
+      ∙ refused_as (refusal_number refusal) (number_rule.never_0 refusal) r
+      ∙ ap (λ (q : Result ℕ Refusal). settled number place (reply q r)) (sym a)
 
 -- What a line's call writes ends on the page.
 pub reply_fits : (r : Roster) (ask : Asked) (page : List ℕ) (place : ℕ)
@@ -89,39 +86,44 @@ reply_fits r (change call) page place = inl refl
 reply_fits r plan page place = (files.reply_rule r page place).fits
 reply_fits r slack page place = (slack_calls.reply_rule r page place).fits
 
-pub made_fits : (r : Roster) (ask : Asked) (page : List ℕ) (place : ℕ) (made : LineAnswer) (exit : List ℕ) → answered_on made exit ≡ reply_as r ask page place
-    → (made.count ≡ 0) ⊎ (place + made.count ≤ length page)
-made_fits r ask page place made exit e =
-    subst (λ (q : LineReply). (q.count ≡ 0) ⊎ (place + q.count ≤ length page)) (sym e) (reply_fits r ask page place)
+none_asked : (frame : Option Frame) → is_some frame ≡ false → asked_as frame ≡ malformed
+unfolding asked_as
+none_asked None e = refl
+none_asked (Some frame) e = absurd (false≢true (sym e))
 
--- ---- A line as it was read
-
-module _ (text : List ℕ) (reading : Reading) (read : reading ≡ reading_of (said_by text)) where
-  pub asked_as_read : asked_as reading.frame reading.values ≡ asked text
+-- A line as it was read.
+module _ (text : List ℕ) (frame : Option Frame) (read : frame ≡ reading_of (said_by text)) (r : Roster) (page : List ℕ) (place : ℕ) where
+  asked_as_read : asked_as frame ≡ asked text
   unfolding asked
-  asked_as_read = ap (λ (q : Reading). asked_as q.frame q.values) read
+  asked_as_read = ap asked_as read
 
-  malformed_as_read : reading.frame ≡ frame.Malformed → malformed ≡ asked text
-  unfolding asked_as
-  malformed_as_read e = sym (ap (λ (f : Frame). asked_as f reading.values) e) ∙ asked_as_read
+  -- A malformed line: the roster stays, and its refusal is the answer.
+  pub replied_malformed : is_some frame ≡ false → (refusal : Refusal) → refusal_number refusal ≡ malformed_number r
+      → answered_on record { answer = Err refusal; roster = r } page ≡ line_reply r text page place
+  unfolding line_reply
+  replied_malformed e refusal n = as_malformed r (asked text) page place refusal n (sym asked_as_read ∙ none_asked frame e)
 
-  module _ (r : Roster) (line : ℕ) (page : List ℕ) (place : ℕ) where
-    -- A malformed line: the roster stays, and its refusal is settled.
-    pub lined_malformed : reading.frame ≡ frame.Malformed → (refusal : Refusal) → refusal_number refusal ≡ malformed_number r → (end : ℕ) (exit : List ℕ)
-        → record { roster = r; page = exit; end = end }
-        ≡ settled line place record { number = number_of (Refused refusal); roster = r; page = page; count = 0 }
-        → record { roster = r; page = exit; end = end } ≡ desk_line r line text page place
-    unfolding desk_line line_reply reply_as
-    lined_malformed e refusal n end exit f =
-        f
-        ∙ ap (λ (k : ℕ). settled line place record { number = k; roster = r; page = page; count = 0 }) (number_rule.refused refusal ∙ n)
-        ∙ ap (λ (a : Asked). settled line place (reply_as r a page place)) (malformed_as_read e)
+  -- Any other: what its call replies.
+  pub replied_called : (made : LineAnswer) (exit : List ℕ) → answered_on made exit ≡ reply_as r (asked_as frame) page place
+      → answered_on made exit ≡ line_reply r text page place
+  unfolding line_reply
+  replied_called made exit e = e ∙ ap (λ (a : Asked). reply_as r a page place) asked_as_read
 
-    -- Any other: what its call replies is settled.
-    pub lined_called : (made : LineAnswer) (exit : List ℕ) → answered_on made exit ≡ reply_as r (asked_as reading.frame reading.values) page place
-        → (end : ℕ) (exit' : List ℕ)
-        → record { roster = made.roster; page = exit'; end = end }
-        ≡ settled line place record { number = number_of made.answer; roster = made.roster; page = exit; count = made.count }
-        → record { roster = made.roster; page = exit'; end = end } ≡ desk_line r line text page place
-    unfolding desk_line line_reply
-    lined_called made exit e end exit' f = f ∙ ap (settled line place) (e ∙ ap (λ (a : Asked). reply_as r a page place) asked_as_read)
+-- What comes of the answer to a line.
+module _ (r : Roster) (text page : List ℕ) (place : ℕ) (made : LineAnswer) (exit : List ℕ) (same : answered_on made exit ≡ line_reply r text page place) where
+  pub made_fits : length exit ≡ length page → (count_in made.answer ≡ 0) ⊎ (place + count_in made.answer ≤ length exit)
+  unfolding line_reply
+  made_fits size =
+      subst (λ (n : ℕ). (count_in made.answer ≡ 0) ⊎ (place + count_in made.answer ≤ n)) (sym size)
+      (subst (λ (q : LineReply). (q.count ≡ 0) ⊎ (place + q.count ≤ length page)) (sym same) (reply_fits r (asked text) page place))
+
+  pub made_stands : Stands r → Stands made.roster × (malformed_number made.roster ≡ malformed_number r)
+  unfolding line_reply
+  made_stands so =
+      subst (λ (q : LineReply). Stands q.roster × (malformed_number q.roster ≡ malformed_number r)) (sym same) (after_line r so (asked text) page place)
+
+  pub lined_made : (line end : ℕ) (exit' : List ℕ)
+      → record { roster = made.roster; page = exit'; end = end } ≡ settled line place (answered_on made exit)
+      → record { roster = made.roster; page = exit'; end = end } ≡ desk_line r line text page place
+  unfolding desk_line
+  lined_made line end exit' e = e ∙ ap (settled line place) same

@@ -106,9 +106,9 @@ lines_keep desk (line ∷ lines) page end h =
 
 -- ---- The loop
 
-numbered : (line line' : ℕ) → line' ≡ (line + 1) % 4294967296 → next_line line ≡ line'
+numbered : (line : ℕ) → next_line line ≡ (line + 1) % 4294967296
 unfolding next_line
-numbered line line' e = sym e
+numbered line = refl
 
 module _ (desk : Desk) (sheet page₀ : List ℕ) where
   pub record FillingOn (page : List ℕ) (roster : Roster) (at line end : ℕ) : Type 0 where
@@ -149,12 +149,11 @@ module _ (desk : Desk) (sheet page₀ : List ℕ) where
           ∙ rw (lt-leb (end + longest_frame) (length page) (omega (arith, so_far.room)), fill_lines)
           )
 
-      pub fill_more : longest_frame ≤ length page - end → (next' : ℕ) (roster' : Roster) (end' : ℕ) (page' : List ℕ) (line' : ℕ) → next' ≡ next
+      pub fill_more : longest_frame ≤ length page - end → (next' : ℕ) (roster' : Roster) (end' : ℕ) (page' : List ℕ) → next' ≡ next
           → record { roster = roster'; page = page'; end = end' } ≡ desk_line roster line (take (next' - at) (drop at sheet)) page end
-          → line' ≡ (line + 1) % 4294967296 → length page' ≡ length page
-          → FillingOn page' roster' next' line' end'
-      fill_more h next' roster' end' page' line' n e l p =
-          let number : next_line line ≡ line' = numbered line line' l in
+          → length page' ≡ length page
+          → FillingOn page' roster' next' ((line + 1) % 4294967296) end'
+      fill_more h next' roster' end' page' n e p =
           let lined : record { roster = roster'; page = page'; end = end' } ≡ desk_line roster line first page end = e ∙ ap (λ (k : ℕ). desk_line roster line (take (k - at) (drop at sheet)) page end) n in
           record {
             same =
@@ -162,8 +161,8 @@ module _ (desk : Desk) (sheet page₀ : List ℕ) where
                 ∙ ap (λ ls. fill_lines record { roster = roster; at = at; line = line } ls page end) split
                 ∙ fill_line record { roster = roster; at = at; line = line } first (lines_of (drop next sheet)) page end (omega (arith, so_far.room))
                 ∙ ap (λ (q : Lined). fill_lines record { roster = q.roster; at = at + length first; line = next_line line } (lines_of (drop next sheet)) q.page q.end) (sym lined)
-                ∙ ap₂ (λ (a k : ℕ). fill_lines record { roster = roster'; at = a; line = k } (lines_of (drop next sheet)) page' end') (line_size sheet at inside ∙ sym n) number
-                ∙ ap (λ (k : ℕ). fill_lines record { roster = roster'; at = next'; line = line' } (lines_of (drop k sheet)) page' end') (sym n);
+                ∙ ap₂ (λ (a k : ℕ). fill_lines record { roster = roster'; at = a; line = k } (lines_of (drop next sheet)) page' end') (line_size sheet at inside ∙ sym n) (numbered line)
+                ∙ ap (λ (k : ℕ). fill_lines record { roster = roster'; at = next'; line = (line + 1) % 4294967296 } (lines_of (drop k sheet)) page' end') (sym n);
             room =
                 let fits = lined_fits roster line first page end so_far.room in
                 omega (arith, ap (λ (q : Lined). q.end) lined);
@@ -182,7 +181,7 @@ too_long_keeps desk size page = go (dec_lt desk.at size) (dec_le longest_frame (
         subst (Keeps desk page) (too_long_small desk size page inside (omega arith))
         record { within = omega arith; same_length = refl; forward = omega arith }
     go (yes inside) (yes room) =
-        subst (Keeps desk page) (too_long_put desk size page inside room 5 0 refl refl _ _ refl refl)
+        subst (Keeps desk page) (too_long_put desk size page inside room 5 refl _ _ refl refl)
         record {
           within = ⊎_elim (λ z. omega arith) (λ f. omega arith) (put_rule page 0 (line_of (refusal_bytes 0 5))).fits;
           same_length = (put_rule page 0 (line_of (refusal_bytes 0 5))).same_length;
@@ -192,7 +191,7 @@ too_long_keeps desk size page = go (dec_lt desk.at size) (dec_le longest_frame (
 too_long_further : (desk : Desk) (size : ℕ) (page : List ℕ) → desk.at < size → longest_frame ≤ length page → {filling : Filling} → filling ≡ fill_too_long desk size page
     → desk.at < filling.desk.at
 too_long_further desk size page inside room e =
-    let at_end = too_long_put desk size page inside room 5 0 refl refl _ _ refl refl in
+    let at_end = too_long_put desk size page inside room 5 refl _ _ refl refl in
     omega (arith, ap (λ (f : Filling). f.desk.at) (e ∙ sym at_end))
 
 module _ (desk : Desk) (sheet page : List ℕ) where

@@ -328,7 +328,7 @@ module _ (sheet : List ℕ) (long : 65536 < length sheet) where
   -- Past its end nothing more is written.
   nothing_more : (pages : List (List ℕ)) (desk : Desk) → length sheet ≤ desk.at → pieces desk sheet pages ≡ []
   unfolding pieces
-  nothing_more [] desk h = refl
+  nothing_more [] _ h = refl
   nothing_more (page ∷ pages) desk h =
       let same = page_too_long desk sheet page long ∙ sym (too_long_past desk (length sheet) page h) in
       ap (λ (F : Filling). take F.end F.page ++ pieces F.desk sheet pages) same ∙ nothing_more pages desk h
@@ -344,7 +344,7 @@ module _ (sheet : List ℕ) (long : 65536 < length sheet) where
           let size : length refusal ≡ 13 = omega (arith, hexadecimal.line_length (refusal_bytes 0 5)) in
           let put = put_room page 0 refusal (omega arith) in
           let from-0 : length refusal ≡ 0 + length refusal = omega arith in
-          let same = page_too_long desk sheet page long ∙ sym (too_long_put desk (length sheet) page inside room 5 0 refl refl _ _ refl refl) in
+          let same = page_too_long desk sheet page long ∙ sym (too_long_put desk (length sheet) page inside room 5 refl _ _ refl refl) in
           ap (λ (F : Filling). take F.end F.page ++ pieces F.desk sheet pages) same
           ∙ ap₂ ◌++◌
           (ap₂ (λ (k : ℕ) (q : List ℕ). take k q) (ap (λ (f : Filed). f.count) put ∙ from-0) (ap (λ (f : Filed). f.page) put)

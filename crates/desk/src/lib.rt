@@ -6,7 +6,7 @@ ghost use Rattle.hexadecimal.specs.Text.{line_of};
 ghost use Rattle.frame_reader.specs.Lines.{lines_of};
 ghost use Rattle.frame_writer.specs.Frames.{refusal_bytes};
 ghost use Rattle.planner.specs.declared.Roster as rosters;
-ghost use Rattle.refusals.specs.Numbers.{number_of};
+ghost use Rattle.refusals.specs.Numbers.{refusal_number, number_of};
 ghost use Rattle.filing.specs.Plans.{put_on};
 ghost use Rattle.calls.specs.Lines.{count_in};
 ghost use Rattle.desk.specs.Pages.{at_start, settled, filled_on, fill_lines, fill_too_long, fill_page};
@@ -37,9 +37,10 @@ pub struct Filled {
 }
 
 // Writes the frame of a refused line, where it has room; how many bytes were written: two digits for each of 6 bytes, and the 0A.
-fn put_refusal(line: u32, number: u8, page: &mut [u8], place: usize) -> usize
-    ensures { (result ≡ (put_on page.old place (line_of (refusal_bytes line number))).count) × (page.new ≡ (put_on page.old place (line_of (refusal_bytes line number))).page) }
+fn put_refusal(line: u32, refusal: Refusal, page: &mut [u8], place: usize) -> usize
+    ensures { let put = put_on page.old place (line_of (refusal_bytes line (refusal_number refusal))) in (result ≡ put.count) × (page.new ≡ put.page) }
 {
+    let number = refusal.number();
     match frame_writer::write_refusal(line, number, page, place) {
         Ok(()) => 13,
         Err(_) => 0,
@@ -53,7 +54,7 @@ fn settle(answer: Result<usize, Refusal>, line: u32, page: &mut [u8], place: usi
 {
     match answer {
         Ok(count) => place + count,
-        Err(refusal) => place + put_refusal(line, refusal.number(), page, place),
+        Err(refusal) => place + put_refusal(line, refusal, page, place),
     }
 }
 
@@ -67,18 +68,20 @@ fn fill_lines(desk: Desk, sheet: &[u8], page: &mut [u8]) -> Filled
     let mut at = desk.at;
     let mut line = desk.line;
     let mut end = 0;
+    // By position: the desk goes on at this one with the next page.
     while at < sheet.len() {
         if page.len() - end < LONGEST_FRAME {
             break;
         }
         let next = line_end(sheet, at);
         let frame = read_line(&sheet[at..next]);
-        let mut answer = Err(refusal);
-        if frame.is_some() {
+        let answer = if frame.is_some() {
             let made = call_frame(roster, frame, page, end);
             roster = made.roster;
-            answer = made.answer;
-        }
+            made.answer
+        } else {
+            Err(refusal)
+        };
         end = settle(answer, line, page, end);
         at = next;
         line = line.wrapping_add(1);
@@ -93,21 +96,12 @@ fn fill_lines(desk: Desk, sheet: &[u8], page: &mut [u8]) -> Filled
 fn fill_too_long(desk: Desk, size: usize, page: &mut [u8]) -> Filled
     ensures { filled_on result page.new ≡ fill_too_long desk size page.old }
 {
-    if size <= desk.at {
+    if size <= desk.at || page.len() < LONGEST_FRAME {
         return Filled { desk, end: 0 };
     }
-    if page.len() < LONGEST_FRAME {
-        return Filled { desk, end: 0 };
-    }
-    let end = put_refusal(0, 5, page, 0);
-    let roster = desk.roster;
-    let line = desk.line;
+    let end = put_refusal(0, Refusal::Malformed, page, 0);
     Filled {
-        desk: Desk {
-            roster,
-            at: size,
-            line,
-        },
+        desk: Desk { at: size, ..desk },
         end,
     }
 }
@@ -117,9 +111,8 @@ impl Desk {
     pub fn start() -> Desk
         ensures { result ≡ at_start }
     {
-        let roster = Roster::empty();
         Desk {
-            roster,
+            roster: Roster::empty(),
             at: 0,
             line: 1,
         }

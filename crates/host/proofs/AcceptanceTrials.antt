@@ -6,7 +6,7 @@ use mathlib.Core.Bool.{true}
 use mathlib.Core.List.{List, [], ◌∷◌, ◌++◌}
 use lib.ListN.{length, take, drop, replicate}
 use Rattle.hexadecimal.specs.Text.{digit_of, digits_of, line_of, value_of, byte_before, end_of, text_of}
-use Rattle.frame_kinds.specs.Frames.{kind_of, right_length, widths_in, number_at, numbers_from, said_as, said_with, beside_of, reading_of}
+use Rattle.frame_kinds.specs.Frames.{kind_of, right_length, widths_in, number_at, numbers_from, said_as, said_with, reading_of}
 use Rattle.frame_reader.specs.Lines.{joined, lines_of}
 use Rattle.frame_reader.specs.Frames.{said_in, said_by}
 use Rattle.frame_reader.specs.Claims.{example_sheet}
@@ -25,7 +25,7 @@ use Rattle.host.proofs.Hosting.{line_allowed, host_rule}
 
 -- Six lines of 01's sheet, and the lines after them.
 six_lines : (lines : List (List ℕ)) → walked Closed 1 (take 6 (lines_of example_sheet) ++ lines) ≡ walked (example_model 5) 7 lines
-unfolding example_sheet joined lines_of value_of byte_before end_of text_of kind_of right_length widths_in number_at numbers_from said_as said_with said_in said_by beside_of reading_of asked_as asked
+unfolding example_sheet joined lines_of value_of byte_before end_of text_of kind_of right_length widths_in number_at numbers_from said_as said_with said_in said_by reading_of asked_as asked
 six_lines lines =
     let e = laws.example_calls in
     goes_on _ _ _ _ _ _ refl e.opens
@@ -36,11 +36,11 @@ six_lines lines =
     ∙ goes_on _ _ _ _ _ _ refl e.admits_5
 
 example_walked : walked Closed 1 (lines_of example_sheet) ≡ record { number = 17; line = 7; model = example_model 5 }
-unfolding example_sheet joined lines_of value_of byte_before end_of text_of kind_of right_length widths_in number_at numbers_from said_as said_with said_in said_by beside_of reading_of asked_as asked
+unfolding example_sheet joined lines_of value_of byte_before end_of text_of kind_of right_length widths_in number_at numbers_from said_as said_with said_in said_by reading_of asked_as asked
 example_walked = six_lines (drop 6 (lines_of example_sheet)) ∙ ends_by _ _ _ _ _ _ _ refl laws.example_calls.refuses_6 (λ z. omega arith)
 
 part_walked : walked Closed 1 (lines_of (take 90 example_sheet)) ≡ record { number = 0; line = 0; model = example_model 5 }
-unfolding example_sheet joined lines_of value_of byte_before end_of text_of kind_of right_length widths_in number_at numbers_from said_as said_with said_in said_by beside_of reading_of asked_as asked
+unfolding example_sheet joined lines_of value_of byte_before end_of text_of kind_of right_length widths_in number_at numbers_from said_as said_with said_in said_by reading_of asked_as asked
 part_walked = six_lines [] ∙ ended (example_model 5) 7
 
 -- How a sheet of allowed length is answered, by how its lines end.
@@ -75,7 +75,7 @@ module _ (line : List ℕ) (wants : wants_frame (asked line) ≡ true) where
 -- ---- All of it
 
 pub sheet_trials : SheetTrials
-unfolding example_sheet joined lines_of value_of byte_before end_of text_of kind_of right_length widths_in number_at numbers_from said_as said_with said_in said_by beside_of reading_of asked_as asked wants_frame digit_of digits_of line_of
+unfolding example_sheet joined lines_of value_of byte_before end_of text_of kind_of right_length widths_in number_at numbers_from said_as said_with said_in said_by reading_of asked_as asked wants_frame digit_of digits_of line_of
 sheet_trials = record {
   no_machine = host_plans (48 ∷ 53 ∷ 10 ∷ []) (omega arith) _ (passed (48 ∷ 53 ∷ 10 ∷ []) refl) refl [] 1 _ (files.files_closed [] 1);
   unclosed = host_refuses (48 ∷ 53 ∷ []) (omega arith) _ (ends_unread Closed 1 (48 ∷ 53 ∷ []) [] refl) (λ z. omega arith) [] 1;

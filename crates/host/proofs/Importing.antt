@@ -4,14 +4,15 @@ use native.Mathlib.Nat.{mod-lt}
 use native.Mathlib.Omega.{arith}
 use mathlib.Core.Path.{◌≡◌, refl, sym, ap, ◌∙◌}
 use mathlib.Core.List.{List, [], ◌∷◌, ◌++◌, append-nil}
-use borrow.Author.Tests.{eq-eqb, ne_eqb, le-leb, lt-leb}
+use Rattle.std.specs.Prelude.{None, Result, Ok, Err}
+use borrow.Author.Tests.{le-leb, lt-leb}
 use lib.ListN.{length, take, drop}
 use Rattle.gmf.specs.declared.Machine.{Machine}
 use Rattle.gmf.specs.Machine.{InRange}
 use Rattle.hexadecimal.specs.Text.{line_feed, line_of, value_of}
 use Rattle.hexadecimal.specs.Claims.{Bytes}
 use Rattle.hexadecimal.proofs.Results.{hexadecimal}
-use Rattle.line_writer.specs.declared.Placing.{Placing}
+use Rattle.line_writer.specs.declared.NoRoom.{NoRoom}
 use Rattle.line_writer.specs.Page.{answered, written}
 use Rattle.line_writer.specs.Page as page-of
 use Rattle.frame_writer.specs.Frames.{machine_bytes}
@@ -24,15 +25,16 @@ use Rattle.frame_reader.proofs.Results.{reads}
 use Rattle.planner.specs.Model.{Closed, step}
 use Rattle.planner.specs.Roster.{roster_of}
 use Rattle.planner.specs.Calls.{outcome_number, after}
-use Rattle.refusals.specs.Numbers.{number_of}
-use Rattle.imports.specs.declared.Found.{Found}
+use Rattle.refusals.specs.declared.Refusal.{Refusal}
+use Rattle.refusals.specs.Numbers.{refusal_number, number_of}
+use Rattle.refusals.proofs.Results.{number_rule}
 use Rattle.imports.specs.Imports.{imported, import_reply, found_in}
 use Rattle.imports.specs.Claims.{call_of}
 use Rattle.imports.proofs.Results.{importing}
 use Rattle.calls.proofs.Results.{calling}
-use Rattle.host.specs.Host.{host_calls, end_number, end_model, end_of}
+use Rattle.host.specs.Host.{host_calls, end_number, end_model}
 use Rattle.host.specs.Replies.{replied_on}
-use Rattle.host.specs.Imports.{machine_line, imported_on}
+use Rattle.host.specs.Imports.{machine_line, put_machine, imported_on}
 use Rattle.host.specs.Claims.{ImportRule}
 use Rattle.host.proofs.Walking.{Walked, walked}
 use Rattle.host.proofs.Turns.{goes_on, ended}
@@ -40,33 +42,39 @@ use Rattle.host.proofs.Hosting.{host_rule, number_allowed}
 
 -- ---- As the code finds it
 
+-- An answer on a page, by its number.
+module _ (M : Machine) (page : List ℕ) (place : ℕ) where
+  put_refused : (answer : Result (Unit {0}) Refusal) → (number_of answer ≡ 0 → ⊥)
+      → put_machine answer M page place ≡ record { number = number_of answer; page = page }
+  unfolding put_machine
+  put_refused (Ok accepted) n = absurd (n (number_rule.accepted accepted))
+  put_refused (Err refusal) n = ap (λ (k : ℕ). record { number = k; page = page }) (sym (number_rule.refused _ refusal))
+
+  put_accepted : (answer : Result (Unit {0}) Refusal) → number_of answer ≡ 0 → put_machine answer M page place ≡ written page place (machine_line M)
+  unfolding put_machine
+  put_accepted (Ok accepted) z = refl
+  put_accepted (Err refusal) z = absurd (number_rule.never_0 refusal (sym (number_rule.refused _ refusal) ∙ z))
+
 module _ (m : ℕ) (list page : List ℕ) (place : ℕ) where
-  on_refused : (number_of (import_reply m list).answer ≡ 0 → ⊥)
-      → imported_on m list page place ≡ record { number = number_of (import_reply m list).answer; page = page }
-  unfolding imported_on
-  on_refused n = rw (ne_eqb (number_of (import_reply m list).answer) 0 n, imported_on) refl
+  pub import_refused : (refusal : Refusal) → Err refusal ≡ found_in (imported m list)
+      → (given : ℕ) → given ≡ refusal_number refusal → replied_on given page ≡ imported_on m list page place
+  unfolding imported_on put_machine
+  import_refused refusal found given g =
+      ap (λ (k : ℕ). replied_on k page) g
+      ∙ ap (λ (a : Result (Unit {0}) Refusal). put_machine a (import_reply m list).roster.machine page place)
+      (sym ((importing.follow_rule m list).found_refused refusal (sym found)))
 
-  on_accepted : number_of (import_reply m list).answer ≡ 0 → imported_on m list page place ≡ written page place (machine_line (import_reply m list).roster.machine)
-  unfolding imported_on
-  on_accepted e = rw (eq-eqb (number_of (import_reply m list).answer) 0 e, imported_on) refl
-
-  module _ (found : Found) (is : found ≡ found_in (import_reply m list)) (number : ℕ) (n : number ≡ number_of found.answer) where
-    numbered : number ≡ number_of (import_reply m list).answer
-    numbered = n ∙ ap (λ (f : Found). number_of f.answer) is
-
-    pub import_refused : (number ≡ 0 → ⊥) → (given : ℕ) → given ≡ number → replied_on given page ≡ imported_on m list page place
-    import_refused some given g = ap (λ (k : ℕ). replied_on k page) (g ∙ numbered) ∙ sym (on_refused (λ z. some (numbered ∙ z)))
-
-    pub import_written : number ≡ 0 → (placing : Placing) (exit : List ℕ)
-        → answered placing exit
-        ≡ written page place (line_of (machine_bytes found.machine.processors found.machine.levels found.machine.lowest found.machine.step))
-        → (given : ℕ) → given ≡ page-of.number_of placing → replied_on given exit ≡ imported_on m list page place
-    unfolding machine_line
-    import_written z placing exit w given g =
-        ap (λ (k : ℕ). replied_on k exit) g
-        ∙ w
-        ∙ ap (λ (f : Found). written page place (machine_line f.machine)) is
-        ∙ sym (on_accepted (sym numbered ∙ z))
+  pub import_written : (M : Machine) → Ok M ≡ found_in (imported m list) → (placing : Result (Unit {0}) NoRoom) (exit : List ℕ)
+      → answered placing exit ≡ written page place (line_of (machine_bytes M.processors M.levels M.lowest M.step))
+      → (given : ℕ) → given ≡ page-of.number_of placing → replied_on given exit ≡ imported_on m list page place
+  unfolding imported_on put_machine machine_line
+  import_written M found placing exit w given g =
+      let follows = importing.follow_rule m list in
+      ap (λ (k : ℕ). replied_on k exit) g
+      ∙ w
+      ∙ ap (λ (q : Machine). put_machine (Ok tt) q page place) (sym (follows.found_machine M (sym found)))
+      ∙ ap (λ (a : Result (Unit {0}) Refusal). put_machine a (import_reply m list).roster.machine page place)
+      (sym (follows.found_accepted M (sym found)))
 
 -- ---- What the line of a machine says
 
@@ -122,7 +130,7 @@ module _ (line : List ℕ) (kind : ℕ) (numbers : List ℕ) (e : said_by line �
       differ : says kind numbers ≡ refused 5 → ⊥
       differ same = omega (arith, ap told same)
 
-  feed_is_none : value_of line_feed ≡ 16
+  feed_is_none : value_of line_feed ≡ None
   unfolding value_of
   feed_is_none = refl
 
@@ -153,11 +161,13 @@ module _ (m : ℕ) (list : List ℕ) where
 
   module _ (page : List ℕ) (place : ℕ) where
     as_refused : (outcome_number (imported m list) ≡ 0 → ⊥) → imported_on m list page place ≡ record { number = outcome_number (imported m list); page = page }
-    as_refused n = on_refused m list page place (λ z. n (sym number_is ∙ z)) ∙ ap (λ (k : ℕ). record { number = k; page = page }) number_is
+    unfolding imported_on
+    as_refused n = put_refused M page place (import_reply m list).answer (λ z. n (sym number_is ∙ z)) ∙ ap (λ (k : ℕ). record { number = k; page = page }) number_is
 
     module _ (e : outcome_number (imported m list) ≡ 0) where
       placed_line : imported_on m list page place ≡ written page place line
-      placed_line = on_accepted m list page place (number_is ∙ e)
+      unfolding imported_on
+      placed_line = put_accepted M page place (import_reply m list).answer (number_is ∙ e)
 
       as_short : length page < place + 15 → imported_on m list page place ≡ record { number = 6; page = page }
       unfolding written
@@ -199,8 +209,7 @@ module _ (m : ℕ) (list : List ℕ) where
     unfolding walked host_calls
     model_same = (host_rule line).at_end short ∙ ap (λ (w : Walked). w.model) ends_so
 
-    roster_same : (end_of line).roster ≡ (import_reply m list).roster
-    unfolding end_of
+    roster_same : roster_of (end_model line) ≡ (import_reply m list).roster
     roster_same = ap roster_of model_same ∙ sym (importing.follow_rule m list).roster
 
   pub import_rule : ImportRule m list

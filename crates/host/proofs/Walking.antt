@@ -5,6 +5,7 @@ use native.Mathlib.Omega.{arith}
 use mathlib.Core.Path.{◌≡◌, refl, sym, ap, subst, ◌∙◌}
 use mathlib.Core.Bool.{Bool, true, false}
 use mathlib.Core.List.{List, [], ◌∷◌}
+use Rattle.std.specs.Prelude.{Ok, Err}
 use borrow.Author.Tests.{le-leb, lt-leb, eq-eqb, ne_eqb}
 use lib.ListN.{length, take, drop}
 use Rattle.frame_reader.specs.Lines.{lines_of, line_end}
@@ -13,13 +14,14 @@ use Rattle.planner.specs.declared.Roster.{Roster}
 use Rattle.planner.specs.Model.{Model, Closed}
 use Rattle.planner.specs.Roster.{empty_roster, roster_of}
 use Rattle.planner.proofs.Results.{planner}
-use Rattle.refusals.specs.Numbers.{number_of}
+use Rattle.refusals.specs.declared.Refusal.{Refusal}
+use Rattle.refusals.specs.Numbers.{refusal_number, number_of}
+use Rattle.refusals.proofs.Results.{number_rule}
 use Rattle.planner.specs.Claims.{Kept}
 use Rattle.calls.specs.declared.LineAnswer.{LineAnswer}
-use Rattle.host.specs.declared.Ended.{Ended}
 use Rattle.calls.specs.Lines.{asked, wants_frame, LineReply, answered_on, reply_as, passed_over}
 use Rattle.calls.specs.Calls.{Call, Line, Reply as CallReply, Done, on_model, replies, end}
-use Rattle.host.specs.Host.{line_on_model, calls_from, host_calls, last_number, refused_from, end_number, refused_line, end_model, end_of}
+use Rattle.host.specs.Host.{line_on_model, calls_from, host_calls, last_number, refused_from, end_number, refused_line, end_model, EndsAs}
 use Rattle.calls.proofs.Following.{line_follows}
 
 -- ---- How some lines end
@@ -103,10 +105,6 @@ module _ (model : Model) (number : ℕ) (line : List ℕ) (lines : List (List �
 
 -- ---- The loop
 
-same_end : (a b c d : ℕ) (u v : Roster) → a ≡ b → c ≡ d → u ≡ v
-    → ◌≡◌ {A = Ended} (record { number = a; line = c; roster = u }) (record { number = b; line = d; roster = v })
-same_end a b c d u v e f g = cc
-
 module _ (sheet : List ℕ) where
   -- The roster is that of a model, from which the lines that are left end as the sheet does.
   pub record Walking (roster : Roster) (at line : ℕ) : Type 0 where
@@ -116,32 +114,39 @@ module _ (sheet : List ℕ) where
     pub same : walked Closed 1 (lines_of sheet) ≡ walked model (suc line) (lines_of (drop at sheet))
     pub counted : line ≤ at
 
-  abbrev ended_by : Walked → Ended
-  ended_by w = record { number = w.number; line = w.line; roster = roster_of w.model }
-
   pub walk_begin : (roster : Roster) → roster ≡ empty_roster → Walking roster 0 0
   walk_begin roster e = record { model = Closed; kept = tt; carried = e ∙ sym planner.begins; same = refl; counted = omega arith }
 
   -- How the sheet ends, of allowed length.
-  ends : length sheet ≤ 65536 → end_of sheet ≡ ended_by (walked Closed 1 (lines_of sheet))
-  unfolding end_of end_number refused_line end_model host_calls walked
-  ends h = rw (le-leb (length sheet) 65536 h, end_number, refused_line, end_model)
+  module _ (short : length sheet ≤ 65536) (w : Walked) (e : walked Closed 1 (lines_of sheet) ≡ w) where
+    number_of_end : end_number sheet ≡ w.number
+    unfolding end_number host_calls walked
+    number_of_end = rw (le-leb (length sheet) 65536 short, end_number) (ap (λ (v : Walked). v.number) e)
 
-  pub walk_too_long : 65536 < length sheet → (number line : ℕ) (roster : Roster) → number ≡ 5 → line ≡ 0 → roster ≡ empty_roster
-      → record { number = number; line = line; roster = roster } ≡ end_of sheet
-  unfolding end_of end_number refused_line end_model
-  walk_too_long h number line roster n l r =
-      same_end _ _ _ _ _ _ n l (r ∙ sym planner.begins) ∙ rw (lt-leb (length sheet) 65536 h, end_number, refused_line, end_model)
+    line_of_end : refused_line sheet ≡ w.line
+    unfolding refused_line walked
+    line_of_end = rw (le-leb (length sheet) 65536 short, refused_line) (ap (λ (v : Walked). v.line) e)
+
+    model_of_end : end_model sheet ≡ w.model
+    unfolding end_model host_calls walked
+    model_of_end = rw (le-leb (length sheet) 65536 short, end_model) (ap (λ (v : Walked). v.model) e)
+
+    ends_at : (roster : Roster) → w.number ≡ 0 → w.line ≡ 0 → roster ≡ roster_of w.model → EndsAs sheet (Ok roster)
+    ends_at roster n l r = (number_of_end ∙ n, line_of_end ∙ l, r ∙ ap roster_of (sym model_of_end))
+
+    stops_at : (refusal : Refusal) (line : ℕ) → refusal_number refusal ≡ w.number → line ≡ w.line
+        → EndsAs sheet (Err (record { refusal = refusal; line = line }))
+    stops_at refusal line n l = (n ∙ sym number_of_end, l ∙ sym line_of_end)
+
+  pub too_long : 65536 < length sheet → (refusal : Refusal) → refusal_number refusal ≡ 5 → EndsAs sheet (Err (record { refusal = refusal; line = 0 }))
+  unfolding end_number refused_line
+  too_long h refusal n = rw (lt-leb (length sheet) 65536 h, end_number, refused_line) (n, refl)
 
   module _ (short : length sheet ≤ 65536) (roster : Roster) (at line : ℕ) (so_far : Walking roster at line) where
-    pub walk_ended : length sheet ≤ at → record { number = 0; line = 0; roster = roster } ≡ end_of sheet
+    pub walk_ended : length sheet ≤ at → EndsAs sheet (Ok roster)
     unfolding walked calls_from refused_from replies end last_number
     walk_ended h =
-        ap (λ (r : Roster). record { number = 0; line = 0; roster = r }) so_far.carried
-        ∙ sym (
-        ends short
-        ∙ ap ended_by (so_far.same ∙ ap (λ ls. walked so_far.model (suc line) ls) ((reads.line_rule sheet).none at h).0)
-        )
+        ends_at short _ (so_far.same ∙ ap (λ ls. walked so_far.model (suc line) ls) ((reads.line_rule sheet).none at h).0) roster refl refl so_far.carried
 
     module _ (inside : at < length sheet) (next : ℕ) (next_is : next ≡ line_end sheet at) (made : LineAnswer)
         (e : answered_on made [] ≡ passed_over roster (asked (take (next - at) (drop at sheet)))) where
@@ -205,22 +210,25 @@ module _ (sheet : List ℕ) where
           counted = moved;
         }
 
-        stop_called : (number_of made.answer ≡ 0 → ⊥) → record { number = number_of made.answer; line = suc line; roster = made.roster } ≡ end_of sheet
-        stop_called n =
-            same_end _ _ _ _ _ _ number_is refl roster_is
-            ∙ sym (ends short ∙ ap ended_by (so_split ∙ walked_stop model (suc line) first (lines_of (drop next sheet)) calls (λ z. n (number_is ∙ z))))
+        stop_called : (refusal : Refusal) → made.answer ≡ Err refusal → EndsAs sheet (Err (record { refusal = refusal; line = suc line }))
+        stop_called refusal err =
+            let is : number_of made.answer ≡ refusal_number refusal = ap number_of err ∙ number_rule.refused _ refusal in
+            stops_at short _ (so_split ∙ walked_stop model (suc line) first (lines_of (drop next sheet)) calls (λ z. number_rule.never_0 refusal (sym is ∙ number_is ∙ z)))
+            refusal (suc line) (sym is ∙ number_is) refl
 
-      pub walk_next : number_of made.answer ≡ 0 → (line' : ℕ) → line' ≡ line + 1 → Walking made.roster next line'
-      walk_next z line' l = subst (λ (k : ℕ). Walking made.roster next k) (sym (add-one line) ∙ sym l) (go (wants_frame (asked first)) refl)
+      pub walk_next : (count : ℕ) → made.answer ≡ Ok count → (line' : ℕ) → line' ≡ line + 1 → Walking made.roster next line'
+      walk_next count ok line' l = subst (λ (k : ℕ). Walking made.roster next k) (sym (add-one line) ∙ sym l) (go (wants_frame (asked first)) refl)
         where
           go : (b : Bool) → wants_frame (asked first) ≡ b → Walking made.roster next (suc line)
           go true w = next_passed w
-          go false w = next_called w z
+          go false w = next_called w (ap number_of ok ∙ number_rule.accepted count)
 
-      pub walk_stop : (number_of made.answer ≡ 0 → ⊥) → (number' line' : ℕ) → number' ≡ number_of made.answer → line' ≡ line + 1
-          → record { number = number'; line = line'; roster = made.roster } ≡ end_of sheet
-      walk_stop n number' line' m l = same_end _ _ _ _ _ _ m (l ∙ add-one line) refl ∙ go (wants_frame (asked first)) refl
+      pub walk_stop : (refusal : Refusal) → made.answer ≡ Err refusal → (line' : ℕ) → line' ≡ line + 1
+          → EndsAs sheet (Err (record { refusal = refusal; line = line' }))
+      walk_stop refusal err line' l =
+          subst (λ (k : ℕ). EndsAs sheet (Err (record { refusal = refusal; line = k }))) (sym (add-one line) ∙ sym l) (go (wants_frame (asked first)) refl)
         where
-          go : (b : Bool) → wants_frame (asked first) ≡ b → record { number = number_of made.answer; line = suc line; roster = made.roster } ≡ end_of sheet
-          go true w = absurd (n (ap (λ (q : LineReply). q.number) (passes w)))
-          go false w = stop_called w n
+          go : (b : Bool) → wants_frame (asked first) ≡ b → EndsAs sheet (Err (record { refusal = refusal; line = suc line }))
+          go true w =
+              absurd (number_rule.never_0 refusal (sym (number_rule.refused _ refusal) ∙ ap number_of (sym err) ∙ ap (λ (q : LineReply). q.number) (passes w)))
+          go false w = stop_called w refusal err

@@ -7,13 +7,14 @@ use Rattle.frame_reader.specs.Claims.{example_sheet}
 use Rattle.frame_reader.specs.Frames.{said_by}
 use Rattle.frame_kinds.specs.Frames.{says}
 use Rattle.planner.specs.Model.{Closed, Opened}
+use Rattle.planner.specs.Roster.{roster_of}
 use Rattle.planner.specs.Calls.{outcome_number, after}
 use Rattle.planner.specs.Claims.{Kept}
 use Rattle.imports.specs.Imports.{imported, import_reply}
 use Rattle.filing.specs.Plans.{plan_line}
 use Rattle.filing.specs.Claims.{frame_length, FiledPlan}
 use Rattle.calls.specs.Calls.{Call, Plan, Line, Reply as CallReply, on_model, replies, end}
-use Rattle.host.specs.Host.{host_calls, last_number, end_number, refused_line, end_model, end_of, host_reply}
+use Rattle.host.specs.Host.{host_calls, last_number, end_number, refused_line, end_model, host_reply}
 use Rattle.host.specs.Imports.{machine_line, imported_on}
 
 -- The plan filed next on the host's page, from the place on, all else as lent.
@@ -78,7 +79,7 @@ pub record ImportRule (processors : ℕ) (list : List ℕ) : Type 0 where
   pub one_line : outcome_number (imported processors list) ≡ 0 → lines_of line ≡ line ∷ []
   pub no_refusal : outcome_number (imported processors list) ≡ 0 → end_number line ≡ 0
   pub same_model : outcome_number (imported processors list) ≡ 0 → end_model line ≡ after Closed (imported processors list)
-  pub same_roster : outcome_number (imported processors list) ≡ 0 → (end_of line).roster ≡ (import_reply processors list).roster
+  pub same_roster : outcome_number (imported processors list) ≡ 0 → roster_of (end_model line) ≡ (import_reply processors list).roster
 
 -- ---- Known results
 

@@ -1,11 +1,13 @@
 -- The host's call (01, "Frames"): its list of calls, and what it replies.
-use Rattle.std.specs.Prelude.{ℕ, suc, true, false, List, [], ◌∷◌, leb, eqb, length}
+use Rattle.std.specs.Prelude.{ℕ, suc, true, false, ◌≡◌, List, [], ◌∷◌, leb, eqb, length, Result, MatchResult}
 use Rattle.frame_reader.specs.Lines.{longest_sheet, lines_of}
 use Rattle.line_writer.specs.Page.{Reply}
 use Rattle.planner.specs.Model.{Model, Closed}
 use Rattle.planner.specs.Roster.{roster_of}
+use Rattle.planner.specs.declared.Roster.{Roster}
+use Rattle.refusals.specs.Numbers.{refusal_number}
 use Rattle.filing.specs.Plans.{filed}
-use Rattle.host.specs.declared.Ended.{Ended}
+use Rattle.host.specs.declared.RefusedLine.{RefusedLine}
 use Rattle.calls.specs.Lines.{asked, wants_frame}
 use Rattle.calls.specs.Calls.{Call, Line, Reply as CallReply, Done, on_model, replies, end}
 
@@ -51,8 +53,12 @@ refused_line sheet = elim (leb (length sheet) longest_sheet) [ true ↦ refused_
 unfoldable pub end_model : List ℕ → Model
 end_model sheet = elim (leb (length sheet) longest_sheet) [ true ↦ end on_model Closed (host_calls sheet) | false ↦ Closed ]
 
-unfoldable pub end_of : List ℕ → Ended
-end_of sheet = record { number = end_number sheet; line = refused_line sheet; roster = roster_of (end_model sheet) }
+-- What the code says of it: the roster of that model, or the refusal with that number and that line.
+abbrev pub EndsAs : List ℕ → Result Roster RefusedLine → Type 0
+EndsAs sheet ending =
+    MatchResult ending
+    (λ roster. (end_number sheet ≡ 0) × (refused_line sheet ≡ 0) × (roster ≡ roster_of (end_model sheet)))
+    (λ refused. (refusal_number refused.refusal ≡ end_number sheet) × (refused.line ≡ refused_line sheet))
 
 -- "The first refused line ends the call with that line's refusal number; then come 11 and 6. … Success returns 0", and "the plan frame of the
 -- roster at the end is written".

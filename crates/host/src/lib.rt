@@ -7,7 +7,7 @@ ghost use Rattle.frame_reader.specs.Lines.{longest_sheet};
 ghost use Rattle.frame_writer.specs.Frames.{refusal_bytes};
 ghost use Rattle.line_writer.specs.Page as page;
 ghost use Rattle.line_writer.specs.Page.{written};
-ghost use Rattle.host.specs.Host.{refused_line, ended, end_of, host_reply};
+ghost use Rattle.host.specs.Host.{refused_line, EndsAs, host_reply};
 ghost use Rattle.host.specs.Replies.{replied_on};
 ghost use Rattle.host.specs.Imports.{imported_on};
 
@@ -23,16 +23,16 @@ use refusals::{Refusal, number_of};
 const LONGEST_SHEET: usize = 65536;
 
 // Why a sheet has no roster at its end: the refusal, and the number of the line that it refuses, 0 for the sheet itself.
-#[derive(Clone, Copy, Debug, PartialEq, Eq)]
-pub struct RefusedLine {
-    pub refusal: Refusal,
-    pub line: u32,
+#[derive(Clone, Copy)]
+struct RefusedLine {
+    refusal: Refusal,
+    line: u32,
 }
 
 // The roster after the lines of a sheet, or the first line that is refused.
 fn read_lines(sheet: &[u8]) -> Result<Roster, RefusedLine>
     requires { length sheet.now ≤ longest_sheet }
-    ensures { ended result ≡ end_of sheet.now }
+    ensures { EndsAs sheet.now result }
 {
     let mut roster = Roster::empty();
     let mut at = 0;
@@ -52,7 +52,7 @@ fn read_lines(sheet: &[u8]) -> Result<Roster, RefusedLine>
 
 // How a sheet ends. One that is too long is refused by 5.
 fn read_sheet(sheet: &[u8]) -> Result<Roster, RefusedLine>
-    ensures { ended result ≡ end_of sheet.now }
+    ensures { EndsAs sheet.now result }
 {
     if LONGEST_SHEET < sheet.len() {
         return Err(RefusedLine {
@@ -86,6 +86,7 @@ pub extern "C" fn planner_refused_line(sheet: &[u8]) -> u32
 }
 
 // The number of a writer's answer, as C has it.
+#[tactic(auto, unfolding(line_writer::specs::Page::number_of))]
 fn writing_number(written: Result<(), NoRoom>) -> u32
     ensures { result ≡ page.number_of written }
 {

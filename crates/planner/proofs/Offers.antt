@@ -29,7 +29,7 @@ use Rattle.planner.specs.declared.Condition.TheVariants as condition
 use Rattle.planner.specs.Tests.{cycle_too_long, no_plan}
 use Rattle.planner.specs.Model.{Model, Closed, Opened, Admit, Outcome, refused, accepted, refuse_if, is_opened, on_machine, weighed, admitted, step}
 use Rattle.planner.specs.Roster.{model_of, roster_of, well_formed, inspected, totals_found, replied, reply_to}
-use Rattle.planner.specs.Offers.{job_in, offered, offer, offer_on, totals_in, offering_as, offering_to}
+use Rattle.planner.specs.Offers.{job_in, offered, offer, offer_on, totals_in, offering_as, offering_to, IsOfferOn}
 use Rattle.planner.specs.Calls.{outcome_number}
 use Rattle.planner.specs.Claims.{IsSound, WithOneMore, admitted_of, Offers}
 use Rattle.planner.proofs.Passing.{not_long, long_not, passes_plan}
@@ -326,80 +326,80 @@ module _ (r : Roster) (id cost period deadline : ℕ) where
           let z : Err refusal ≡ offering_as (accepted model) = e ∙ ap offering_as f in
           cc
 
-  module _ (entries : length r.table ≡ 32) (places : length r.jobs ≡ 64) where
+  -- An offer that is not refused.
+  module _ (o : Offer) (i : IsOfferOn r id cost period deadline o) where
     abbrev joins : List Job
     joins = insert (job_due id cost period deadline) (take r.held r.jobs)
 
-    -- What an offer that is not refused shows.
-    pub record Taken (o : Offer) : Type 0 where
+    -- What it shows.
+    pub record Taken : Type 0 where
       pub sound : IsSound r
       pub onto : offer_on r id cost period deadline ≡ accepted (Opened r.machine (take r.machine.levels r.table) joins)
       pub places_are : o.jobs ≡ places_of joins
       pub totals_are : o.totals ≡ totals joins
       pub with_one_more : WithOneMore r joins
 
-    pub taken : (o : Offer) → Ok o ≡ offering_to r id cost period deadline → Taken o
+    pub taken : Taken
     unfolding offering_to offering_as totals_in roster_of
-    taken o e = go (offer_on r id cost period deadline) refl
+    taken = go (offer_on r id cost period deadline) refl
       where
-        go : (out : Outcome) → offer_on r id cost period deadline ≡ out → Taken o
-        go (refused other) f = let z : Ok o ≡ Err other = e ∙ ap offering_as f in cc
+        go : (out : Outcome) → offer_on r id cost period deadline ≡ out → Taken
+        go (refused other) f = let z : Ok o ≡ Err other = i.answer ∙ ap offering_as f in cc
         go (accepted Closed) f = absurd (some_machine id cost period deadline r f)
         go (accepted (Opened M table jobs)) f =
             let s : IsSound r
-            = form_sound r entries places (accepted_open id cost period deadline r entries places (Opened M table jobs) f)
-            (accepted_formed id cost period deadline r entries places (Opened M table jobs) f) in
+            = form_sound r i.entries i.places (accepted_open id cost period deadline r i.entries i.places (Opened M table jobs) f)
+            (accepted_formed id cost period deadline r i.entries i.places (Opened M table jobs) f) in
             let whole : Opened M table jobs ≡ Opened r.machine (take r.machine.levels r.table) joins
             = adds id cost period deadline r.machine (take r.machine.levels r.table) (take r.held r.jobs) (Opened M table jobs)
-            (sym (on_sound r entries places s id cost period deadline) ∙ f) in
+            (sym (on_sound r i.entries i.places s id cost period deadline) ∙ f) in
             let onto : offer_on r id cost period deadline ≡ accepted (Opened r.machine (take r.machine.levels r.table) joins) = f ∙ ap accepted whole in
-            let z : ◌≡◌ {A = Result Offer Refusal} (Ok o) (Ok (record { jobs = places_of joins; totals = totals joins })) = e ∙ ap offering_as onto in
+            let z : ◌≡◌ {A = Result Offer Refusal} (Ok o) (Ok (record { jobs = places_of joins; totals = totals joins })) = i.answer ∙ ap offering_as onto in
             let same : ◌≡◌ {A = Offer} o (record { jobs = places_of joins; totals = totals joins }) = cc in
             record {
               sound = s;
               onto = onto;
               places_are = ap (λ (q : Offer). q.jobs) same;
               totals_are = ap (λ (q : Offer). q.totals) same;
-              with_one_more = (one_more id cost period deadline r entries places r.machine (take r.machine.levels r.table) joins onto).1;
+              with_one_more = (one_more id cost period deadline r i.entries i.places r.machine (take r.machine.levels r.table) joins onto).1;
             }
 
-    module _ (o : Offer) (t : Taken o) where
-      load_is_within : Some o.totals ≡ load_of joins
-      load_is_within = ap Some t.totals_are ∙ sym (load_within joins t.with_one_more.within_limit)
+    load_is_within : Some o.totals ≡ load_of joins
+    load_is_within = ap Some taken.totals_are ∙ sym (load_within joins taken.with_one_more.within_limit)
 
-      tells : (v : Verdict) → judged r.machine.processors (Some o.totals) ≡ v → Tells r.machine joins v
-      tells v e = load_tells r.machine t.with_one_more.machine_range joins t.with_one_more.job_ranges (Some o.totals) load_is_within v e
+    tells : (v : Verdict) → judged r.machine.processors (Some o.totals) ≡ v → Tells r.machine joins v
+    tells v e = load_tells r.machine taken.with_one_more.machine_range joins taken.with_one_more.job_ranges (Some o.totals) load_is_within v e
 
-      weighed_by : (b : Bool) → no_plan r.machine joins ≡ b
-          → replied r (refuse_if b NoPlan (accepted (Opened r.machine (take r.machine.levels r.table) joins))) ≡ reply_to r (Admit id cost period deadline)
-      unfolding admitted_of
-      weighed_by b f = sym (by_offer ∙ ap (λ o. replied r (admitted_of o)) t.onto ∙ ap (λ (c : Bool). replied r (refuse_if c NoPlan (accepted (Opened r.machine (take r.machine.levels r.table) joins)))) f)
+    weighed_by : (b : Bool) → no_plan r.machine joins ≡ b
+        → replied r (refuse_if b NoPlan (accepted (Opened r.machine (take r.machine.levels r.table) joins))) ≡ reply_to r (Admit id cost period deadline)
+    unfolding admitted_of
+    weighed_by b f = sym (by_offer ∙ ap (λ o. replied r (admitted_of o)) taken.onto ∙ ap (λ (c : Bool). replied r (refuse_if c NoPlan (accepted (Opened r.machine (take r.machine.levels r.table) joins)))) f)
 
-      pub admit_none : is_err (judged r.machine.processors (Some o.totals)) ≡ true
-          → record { answer = Err NoPlan; roster = r } ≡ reply_to r (Admit id cost period deadline)
-      unfolding Tells refuse_if
-      admit_none n = go (judged r.machine.processors (Some o.totals)) refl
-        where
-          go : (v : Verdict) → judged r.machine.processors (Some o.totals) ≡ v → record { answer = Err NoPlan; roster = r } ≡ reply_to r (Admit id cost period deadline)
-          go (Ok u) f = let z : false ≡ true = sym (ap is_err f) ∙ n in cc
-          go (Err unplanned.NoPlan) f =
-              refused_by (weighed_by true (passes_none r.machine t.with_one_more.machine_range joins (tells (Err unplanned.NoPlan) f).1))
-          go (Err unplanned.TooLong) f = let long = tells (Err unplanned.TooLong) f in absurd (omega (arith, t.with_one_more.within_limit))
+    pub admit_none : is_err (judged r.machine.processors (Some o.totals)) ≡ true
+        → record { answer = Err NoPlan; roster = r } ≡ reply_to r (Admit id cost period deadline)
+    unfolding Tells refuse_if
+    admit_none n = go (judged r.machine.processors (Some o.totals)) refl
+      where
+        go : (v : Verdict) → judged r.machine.processors (Some o.totals) ≡ v → record { answer = Err NoPlan; roster = r } ≡ reply_to r (Admit id cost period deadline)
+        go (Ok u) f = let z : false ≡ true = sym (ap is_err f) ∙ n in cc
+        go (Err unplanned.NoPlan) f =
+            refused_by (weighed_by true (passes_none r.machine taken.with_one_more.machine_range joins (tells (Err unplanned.NoPlan) f).1))
+        go (Err unplanned.TooLong) f = let long = tells (Err unplanned.TooLong) f in absurd (omega (arith, taken.with_one_more.within_limit))
 
-      pub admit_some : is_err (judged r.machine.processors (Some o.totals)) ≡ false
-          → record { answer = Ok (tt {0}); roster = record { machine = r.machine; table = r.table; held = r.held + 1; jobs = o.jobs } }
-          ≡ reply_to r (Admit id cost period deadline)
-      unfolding Tells refuse_if replied roster_of
-      admit_some n = go (judged r.machine.processors (Some o.totals)) refl
-        where
-          go : (v : Verdict) → judged r.machine.processors (Some o.totals) ≡ v
-              → record { answer = Ok (tt {0}); roster = record { machine = r.machine; table = r.table; held = r.held + 1; jobs = o.jobs } }
-              ≡ reply_to r (Admit id cost period deadline)
-          go (Ok u) f =
-              same_fields r.machine r.table _ (r.held + 1) (length joins) o.jobs (places_of joins) (entries_carried r entries places t.sound)
-              (sym t.with_one_more.size) t.places_are
-              ∙ weighed_by false (passes_plan r.machine t.with_one_more.machine_range joins (tells (Ok u) f).1)
-          go (Err why) f = let z : true ≡ false = sym (ap is_err f) ∙ n in cc
+    pub admit_some : is_err (judged r.machine.processors (Some o.totals)) ≡ false
+        → record { answer = Ok (tt {0}); roster = record { machine = r.machine; table = r.table; held = r.held + 1; jobs = o.jobs } }
+        ≡ reply_to r (Admit id cost period deadline)
+    unfolding Tells refuse_if replied roster_of
+    admit_some n = go (judged r.machine.processors (Some o.totals)) refl
+      where
+        go : (v : Verdict) → judged r.machine.processors (Some o.totals) ≡ v
+            → record { answer = Ok (tt {0}); roster = record { machine = r.machine; table = r.table; held = r.held + 1; jobs = o.jobs } }
+            ≡ reply_to r (Admit id cost period deadline)
+        go (Ok u) f =
+            same_fields r.machine r.table _ (r.held + 1) (length joins) o.jobs (places_of joins) (entries_carried r i.entries i.places taken.sound)
+            (sym taken.with_one_more.size) taken.places_are
+            ∙ weighed_by false (passes_plan r.machine taken.with_one_more.machine_range joins (tells (Ok u) f).1)
+        go (Err why) f = let z : true ≡ false = sym (ap is_err f) ∙ n in cc
 
 pub offers : Offers
 offers id cost period deadline = record {

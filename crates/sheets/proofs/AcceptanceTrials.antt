@@ -6,7 +6,7 @@ use mathlib.Core.List.{List, [], ◌∷◌, ◌++◌, map, append-nil}
 use borrow.Author.Tests.{le-leb}
 use lib.ListN.{length, take, drop}
 use Rattle.hexadecimal.specs.Text.{digit_of, digits_of, line_of, value_of, byte_before, end_of, text_of}
-use Rattle.frame_kinds.specs.Frames.{kind_of, right_length, widths_in, number_at, numbers_from, said_as, said_with, beside_of, reading_of}
+use Rattle.frame_kinds.specs.Frames.{kind_of, right_length, widths_in, number_at, numbers_from, said_as, said_with, reading_of}
 use Rattle.frame_reader.specs.Lines.{joined, lines_of}
 use Rattle.frame_reader.specs.Frames.{said_in, said_by}
 use Rattle.frame_reader.specs.Claims.{example_sheet}
@@ -78,7 +78,7 @@ last model calls reply e = ap (λ (l : List Call). reply ∷ replies on_model mo
 module _ (rest : List (List ℕ)) (rest-replies : List Reply) (e : replies on_model (example_model 5) (map (λ line. Line line blank 0) rest) ≡ rest-replies) where
   example_replies : replies on_model Closed (map (λ line. Line line blank 0) (take 6 (lines_of example_sheet) ++ rest))
       ≡ unwritten 0 ∷ unwritten 0 ∷ unwritten 0 ∷ unwritten 0 ∷ unwritten 0 ∷ unwritten 0 ∷ rest-replies
-  unfolding example_sheet joined lines_of value_of byte_before end_of text_of kind_of right_length widths_in number_at numbers_from said_as said_with said_in said_by beside_of reading_of asked_as asked unwritten
+  unfolding example_sheet joined lines_of value_of byte_before end_of text_of kind_of right_length widths_in number_at numbers_from said_as said_with said_in said_by reading_of asked_as asked unwritten
   example_replies =
       let c = laws.example_calls in
       by_change _ _ _ _ _ _ refl c.opens
@@ -96,14 +96,14 @@ module _ (rest : List (List ℕ)) (rest-replies : List Reply) (e : replies on_mo
 -- Its seventh line and the wanted plan; and the wanted slack instead.
 plan_replies : replies on_model (example_model 5) (map (λ line. Line line blank 0) (drop 6 (lines_of example_sheet)))
     ≡ unwritten 17 ∷ plainly (filed (example_model 5) blank 0).number (filed (example_model 5) blank 0).page ∷ []
-unfolding example_sheet joined lines_of value_of byte_before end_of text_of kind_of right_length widths_in number_at numbers_from said_as said_with said_in said_by beside_of reading_of asked_as asked unwritten
+unfolding example_sheet joined lines_of value_of byte_before end_of text_of kind_of right_length widths_in number_at numbers_from said_as said_with said_in said_by reading_of asked_as asked unwritten
 plan_replies =
     by_change _ _ _ _ _ _ refl laws.example_calls.refuses_6
     ∙ ap (λ rs. unwritten 17 ∷ rs) (by_plan _ _ _ refl _ refl ∙ last (example_model 5) [] _ refl)
 
 slack_replies : replies on_model (example_model 5) (Line (48 ∷ 55 ∷ 10 ∷ []) blank 0 ∷ [])
     ≡ plainly (slack_filed (example_model 5) blank 0).number (slack_filed (example_model 5) blank 0).page ∷ []
-unfolding value_of byte_before end_of text_of kind_of right_length widths_in number_at numbers_from said_as said_with said_in said_by beside_of reading_of asked_as asked
+unfolding value_of byte_before end_of text_of kind_of right_length widths_in number_at numbers_from said_as said_with said_in said_by reading_of asked_as asked
 slack_replies = by_slack _ _ _ refl _ refl ∙ last (example_model 5) [] _ refl
 
 -- ---- All of it
@@ -166,7 +166,7 @@ no_slack_output sheet line l h a =
     one_line sheet line (plainly 11 blank) l h (alone line _ (by_slack Closed line [] a _ (slack_calls.slack_closed blank 0)))
 
 pub sheet_trials : SheetTrials
-unfolding example_sheet joined lines_of desk_calls value_of byte_before end_of text_of kind_of right_length widths_in number_at numbers_from said_as said_with said_in said_by beside_of reading_of asked_as asked digit_of digits_of line_of
+unfolding example_sheet joined lines_of desk_calls value_of byte_before end_of text_of kind_of right_length widths_in number_at numbers_from said_as said_with said_in said_by reading_of asked_as asked digit_of digits_of line_of
 sheet_trials = record {
   example = example_output;
   empty = nothing;

@@ -9,7 +9,7 @@ use lib.ListN.{length, take, replicate}
 use lib.Seq.{take-append_seam}
 use Rattle.gmf.specs.declared.Machine.{Machine}
 use Rattle.gmf.specs.declared.Job.{Job}
-use Rattle.gmf.specs.Growing.{Growth, plan_of}
+use Rattle.gmf.specs.Growing.{Growth}
 use Rattle.hexadecimal.specs.Text.{line_of}
 use Rattle.hexadecimal.proofs.Results.{hexadecimal}
 use Rattle.workload.specs.declared.Share.{Share}

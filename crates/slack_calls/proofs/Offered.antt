@@ -1,11 +1,10 @@
 -- What the slack with a job is, as the code finds it of the offer.
-use Prim.Native.Nat.{ℕ, zero, suc, ◌+◌, ◌-◌, ◌≤◌}
-use native.Mathlib.Omega.{arith}
+use Prim.Native.Nat.{ℕ, ◌+◌, ◌-◌, ◌≤◌}
 use mathlib.Core.Path.{◌≡◌, refl, sym, ap, ap₂, ◌∙◌}
-use mathlib.Core.List.{List, ◌∷◌}
+use mathlib.Core.List.{List}
 use Rattle.std.specs.Prelude.{Result, Ok, Err}
 use Rattle.std.proofs.lemmas.List.{take-replicate}
-use lib.ListN.{length, take, replicate}
+use lib.ListN.{take, replicate}
 use Rattle.gmf.specs.declared.Job.{Job}
 use Rattle.refusals.specs.declared.Refusal.{Refusal}
 use Rattle.gmf.specs.Jobs.{job_due}
@@ -13,9 +12,9 @@ use Rattle.places.specs.Places.{insert}
 use Rattle.planner.specs.declared.Roster.{Roster}
 use Rattle.planner.specs.declared.Offer.{Offer}
 use Rattle.planner.specs.Model.{Outcome, refused, accepted}
-use Rattle.planner.specs.Offers.{offer_on, offering_as, offering_to}
+use Rattle.planner.specs.Offers.{offer_on, offering_as, offering_to, IsOfferOn}
 use Rattle.planner.proofs.Forms.{holding}
-use Rattle.planner.proofs.Offers.{Taken}
+use Rattle.planner.proofs.Offers.{Taken, taken}
 use Rattle.slack.specs.Slack.{all_at_top}
 use Rattle.slack_calls.specs.declared.Slacks.{Slacks}
 use Rattle.slack_calls.specs.Slacks.{slack_under, slack_on, slack_to}
@@ -33,16 +32,21 @@ module _ (r : Roster) (id cost period deadline : ℕ) where
           ap (λ (x : Refusal). slack_on (refused x)) same ∙ ap slack_on (sym f)
       go (accepted model) f = let z : Err refusal ≡ offering_as (accepted model) = e ∙ ap offering_as f in cc
 
-  module _ (entries : length r.table ≡ 32) (places : length r.jobs ≡ 64) (o : Offer) (t : Taken r id cost period deadline entries places o) where
+  -- An offer that is not refused.
+  module _ (o : Offer) (i : IsOfferOn r id cost period deadline o) where
+    abbrev shows : Taken r id cost period deadline o i
+    shows = taken r id cost period deadline o i
+
     abbrev joins : List Job
     joins = insert (job_due id cost period deadline) (take r.held r.jobs)
 
     pub in_places : take (r.held + 1) o.jobs ≡ joins
-    in_places = ap₂ take (sym t.with_one_more.size) t.places_are ∙ holding joins
+    in_places = ap₂ take (sym shows.with_one_more.size) shows.places_are ∙ holding joins
 
-    pub with_it : (a : Slacks) → a ≡ slack_under r.machine (take (r.held + 1) o.jobs) (take r.machine.processors (replicate 32 (r.machine.levels - 1)))
-        → Ok a ≡ slack_to r id cost period deadline
+    pub with_it : (a : Slacks) (highest : ℕ) → a ≡ slack_under r.machine (take (r.held + 1) o.jobs) (take r.machine.processors (replicate 32 highest))
+        → highest ≡ r.machine.levels - 1 → Ok a ≡ slack_to r id cost period deadline
     unfolding slack_to slack_on all_at_top
-    with_it a e =
-        let few : r.machine.processors ≤ 32 = t.with_one_more.machine_range.processors.1 in
-        ap Ok (e ∙ ap₂ (slack_under r.machine) in_places (take-replicate r.machine.processors 32 (r.machine.levels - 1) few)) ∙ ap slack_on (sym t.onto)
+    with_it a highest e h =
+        let few : r.machine.processors ≤ 32 = shows.with_one_more.machine_range.processors.1 in
+        let levels = take-replicate r.machine.processors 32 highest few ∙ ap (replicate r.machine.processors) h in
+        ap Ok (e ∙ ap₂ (slack_under r.machine) in_places levels) ∙ ap slack_on (sym shows.onto)

@@ -73,9 +73,7 @@ pub fn file_slack(roster: &Roster, page: &mut [u8], place: usize) -> Result<usiz
     // some plan passes for a roster that keeps its rules
     let plan = grow(share).unwrap();
     let slacks = slack_under(share, &plan.levels[..m]);
-    let ticks = slacks.ticks;
-    let remainders = slacks.remainders;
-    if write_slack(ticks, remainders, m, page, place).is_err() {
+    if write_slack(slacks.ticks, slacks.remainders, m, page, place).is_err() {
         return Err(Refusal::NoRoom);
     }
     Ok(2 * (1 + 9 * m) + 1)

@@ -60,13 +60,18 @@ fn first_jobs(rt: &impl Print, jobs: [Job; 64], held: usize) -> io::Result<()> {
     Ok(())
 }
 
+// Is no place from `held` on in use?
+fn unused_from(roster: &Roster, held: usize) -> bool {
+    roster.jobs.get(held..).is_none_or(unused)
+}
+
 // The jobs held, each as id, C, T and D, and what is after them.
 pub fn jobs(rt: &impl Print, roster: &Roster) -> io::Result<()> {
     let jobs = roster.jobs;
     let held = usize::from(roster.held).min(64);
     print!(rt; "jobs {held}:")?;
     first_jobs(rt, jobs, held)?;
-    rest(rt, unused(&jobs[held..]))
+    rest(rt, unused_from(roster, held))
 }
 
 // The cycle of the jobs held and the sum of their works.

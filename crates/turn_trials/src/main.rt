@@ -13,14 +13,13 @@ use std::io;
 
 // Job after job, and one turn more.
 fn turns(rt: &impl Print, roster: Roster) -> io::Result<()> {
-    let jobs = roster.jobs;
-    let held = usize::from(roster.held).min(64);
+    let jobs = &roster.jobs[..usize::from(roster.held).min(64)];
     let mut job = none_taken();
-    for _ in 0..held {
-        job = next_job(jobs, held, job);
+    for _ in jobs {
+        job = next_job(jobs, job);
         print!(rt; "{} ", job.id)?;
     }
-    println!(rt; "{}", next_job(jobs, held, job).id)
+    println!(rt; "{}", next_job(jobs, job).id)
 }
 
 fn main(rt: HostRuntime) -> io::Result<()> {

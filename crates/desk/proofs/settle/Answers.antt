@@ -2,23 +2,20 @@
 use Rattle.std.proofs.Common.{⊎_elim, arith}
 use Rattle.hexadecimal.specs.Text.{line_of}
 use Rattle.frame_writer.specs.Frames.{refusal_bytes}
+use Rattle.refusals.specs.Numbers.{refusal_number}
 use Rattle.filing.proofs.Written.{put_rule}
 use Rattle.desk.proofs.Filling.{settled_accepted, settled_refused}
 use Rattle.desk.proofs.settle.Goals as goal
 
-pub overflow_add-result : goal.overflow_add-result
-overflow_add-result c = ⊎_elim (λ e. omega arith) (λ h. omega arith) c.requires
+pub overflow_add-result-in-Err : goal.overflow_add-result-in-Err
+overflow_add-result-in-Err c =
+    ⊎_elim (λ e. omega (arith, c.put_refusal.ensures.0)) (λ h. omega (arith, c.put_refusal.ensures.0))
+    (put_rule c.args.page.now c.args.place (line_of (refusal_bytes c.args.line (refusal_number c.in-Err.refusal)))).fits
 
-pub overflow_add-result-in-Refused : goal.overflow_add-result-in-Refused
-overflow_add-result-in-Refused c =
-    ⊎_elim (λ e. omega (arith, c.put_refusal-written.ensures.0)) (λ h. omega (arith, c.put_refusal-written.ensures.0))
-    (put_rule c.args.page.now c.args.place (line_of (refusal_bytes c.args.line c.number.result))).fits
+pub returns-in-Ok : goal.returns-in-Ok
+returns-in-Ok c = settled_accepted c.args.line c.args.place c.args.page.now c.args.answer _ c.in-Ok.is
 
-pub returns-in-Accepted : goal.returns-in-Accepted
-returns-in-Accepted c =
-    settled_accepted c.args.line c.args.place c.args.answer c.args.count c.args.page.now c.in-Accepted.is
-
-pub returns-in-Refused : goal.returns-in-Refused
-returns-in-Refused c =
-    settled_refused c.args.line c.args.place c.args.answer c.args.count c.args.page.now _ c.in-Refused.is _ _ _
-    c.number.ensures c.put_refusal-written.ensures.0 c.put_refusal-written.ensures.1
+pub returns-in-Err : goal.returns-in-Err
+returns-in-Err c =
+    settled_refused c.args.line c.args.place c.args.page.now c.args.answer _ c.in-Err.is _ _
+    c.put_refusal.ensures.0 c.put_refusal.ensures.1

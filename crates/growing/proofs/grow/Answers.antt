@@ -12,10 +12,10 @@ use Rattle.gmf.specs.declared.Machine.{Machine}
 use Rattle.gmf.specs.Jobs.{hyperperiod, hyperperiod_limit, work, works}
 use Rattle.gmf.specs.Capacity.{sum}
 use Rattle.workload.specs.declared.Share.{Share}
-use Rattle.workload.specs.Load.{totals}
 use Rattle.growing.specs.Plan.{plan_from}
 use Rattle.growing.proofs.Raises.{Grows}
-use Rattle.growing.proofs.Works.{Given, Asks, Ready, ready_same, work_most, work_more_most, ready_taken, ready_small, ready_last}
+use Rattle.growing.proofs.Shares.{given, ticks_are, work_is}
+use Rattle.growing.proofs.Works.{Asks, Ready, ready_same, work_most, work_more_most, ready_taken, ready_small, ready_last}
 use Rattle.growing.proofs.Loops.{Outer, Inner, outer_begin, inner_begin, supply_bound, raises_bound, outer_next, step_none, grown_more, inner_next, inner_up, finished}
 use Rattle.growing.proofs.grow.Goals.{After-work_of-work, Joined-joined-steps, then-joined-steps+then-not-small, then-joined-steps+else-not-small, else-joined-steps}
 use Rattle.growing.proofs.grow.Goals as goal
@@ -29,35 +29,21 @@ module _ (s : Share) where
   abbrev jobs : List Job
   jobs = s.jobs.now
 
-  given : Given M jobs
-  given = record { machine = s.machine_in_range; few = s.few; in_range_law = s.jobs_in_range; rising = s.by_rising_id; limited = s.within }
-
-  ticks_are : s.totals.hyperperiod ≡ hyperperiod jobs
-  unfolding totals
-  ticks_are = ap (λ t. t.hyperperiod) s.found
-
-  work_is : s.totals.work ≡ sum (works jobs)
-  unfolding totals
-  work_is = ap (λ t. t.work) s.found
-
   -- What a number of the machine, times the hyperperiod, add to the supply.
   supply_is : (supply n : ℕ) → supply + s.totals.hyperperiod * n ≡ supply + hyperperiod jobs * n
-  supply_is supply n = ap (λ (h : ℕ). supply + h * n) ticks_are
-
-  ticks_most : (n b : ℕ) → n ≤ b → s.totals.hyperperiod * n ≤ hyperperiod_limit * b
-  ticks_most n b h = mul-le-mul (rw ticks_are s.within) h
+  supply_is supply n = ap (λ (h : ℕ). supply + h * n) (ticks_are s)
 
   demand_most : (d : ℕ) → d ≤ sum (works jobs) → d ≤ 64 * 65535 * hyperperiod_limit
-  demand_most d h = le_trans h (work_most M jobs given)
+  demand_most d h = le_trans h (work_most M jobs (given s))
 
   -- ---- A raise of a level below the top
   module _ (levels above : List ℕ) (raises supply i v p need : ℕ) (inner : Inner M jobs need levels above raises supply i v p) (inside : i < M.processors)
       (short : supply < need) (low : v < M.levels - 1) where
     grown : Grows M (hyperperiod jobs) (suc i) (set levels p (v + 1)) (set above v (p + 1)) (raises + 1) (supply + s.totals.hyperperiod * M.step)
-    grown = grown_more M jobs given _ _ _ _ _ _ _ _ inner inside short low _ _ _ _ refl refl refl (supply_is supply M.step)
+    grown = grown_more M jobs (given s) _ _ _ _ _ _ _ _ inner inside short low _ _ _ _ refl refl refl (supply_is supply M.step)
 
     count : raises + 1 ≤ suc i * (M.levels - 1)
-    count = raises_bound M jobs given _ _ _ _ _ grown inside
+    count = raises_bound M jobs (given s) _ _ _ _ _ grown inside
 
     raises_few : raises + 1 ≤ 32 * 32
     raises_few =
@@ -66,7 +52,7 @@ module _ (s : Share) where
         le_trans count (mul-le-mul i≤ t≤)
 
     supply_few : supply + s.totals.hyperperiod * M.step ≤ hyperperiod_limit * (32 * 256)
-    supply_few = supply_bound M jobs given _ _ _ _ _ grown inside
+    supply_few = supply_bound M jobs (given s) _ _ _ _ _ grown inside
 
 -- ---- A step before its raises
 

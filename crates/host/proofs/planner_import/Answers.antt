@@ -1,14 +1,9 @@
--- By the import's number, and where it is 0 by what was placed.
-use native.Mathlib.Omega.{arith}
+-- By what is found: the import's refusal, or a machine and what was written of it.
 use Rattle.host.proofs.Importing.{import_refused, import_written}
 use Rattle.host.proofs.planner_import.Goals as goal
 
-pub returns-then-reply-ne0 : goal.returns-then-reply-ne0
-returns-then-reply-ne0 c =
-    import_refused _ _ _ _ _ c.find_machine-found.ensures _ c.number-reply.ensures c.if-reply-ne0.true _ (omega arith)
+pub returns-in-Ok : goal.returns-in-Ok
+returns-in-Ok c = import_written _ _ _ _ c.in-Ok.machine c.in-Ok.ensures _ _ c.write_machine.ensures _ c.writing_number.ensures
 
-pub returns : goal.returns
-returns c =
-    let w = c.before.before.before in
-    let back = w.before.before.before.before in
-    import_written _ _ _ _ _ back.find_machine-found.ensures _ back.number-reply.ensures c.if-reply-ne0.false _ _ c.write_machine.ensures _ c.placing_number.ensures
+pub returns-in-Err : goal.returns-in-Err
+returns-in-Err c = import_refused _ _ _ _ c.in-Err.refusal c.in-Err.ensures _ c.number.ensures

@@ -1,7 +1,7 @@
 -- `host::read_lines` meets its contract.
 use Prim.Native.Nat.{◌≤◌, ◌<◌}
 use native.Mathlib.Omega.{arith}
-use mathlib.Core.Path.{refl, sym, ◌∙◌}
+use mathlib.Core.Path.{refl}
 use lib.ListN.{length}
 use Rattle.frame_reader.proofs.Lines.{next_within}
 use Rattle.host.proofs.Walking.{walk_begin, walk_ended, walk_next, walk_stop}
@@ -27,18 +27,12 @@ pub slice_bounds-host_line-end : goal.slice_bounds-host_line-end
 slice_bounds-host_line-end c = omega (arith, (further c).1)
 
 pub overflow_add-line : goal.overflow_add-line
-overflow_add-line c =
-    let e = c.before.before.before.before in
-    let l = e.before.before in
-    omega (arith, c.loop-at.invariant.0.counted, c.loop-at.invariant.1, l.requires)
+overflow_add-line c = omega (arith, c.loop-at.invariant.0.counted, c.loop-at.invariant.1, c.requires)
 
-pub returns-then-number-ne0 : goal.returns-then-number-ne0
-returns-then-number-ne0 c =
-    let n = c.before in
-    let h = n.before.before in
-    let e = h.before.before in
-    walk_stop c.args.sheet.now c.requires c.loop-at.roster c.loop-at.at c.loop-at.line c.loop-at.invariant.0 e.loop-at-test.true
-    _ c.line_end-next.ensures c.host_line-made.result c.host_line-made.ensures (λ z. c.if-number-ne0.true (c.number-number.ensures ∙ z)) _ _ c.number-number.ensures refl
+pub returns-in-Err : goal.returns-in-Err
+returns-in-Err c =
+    walk_stop c.args.sheet.now c.requires c.loop-at.roster c.loop-at.at c.loop-at.line c.loop-at.invariant.0 c.loop-at-test.true
+    _ c.line_end-next.ensures c.host_line-made.result c.host_line-made.ensures c.in-Err.refusal c.in-Err.is _ refl
 
 pub loop-at-smaller : goal.loop-at-smaller
 loop-at-smaller c =
@@ -49,7 +43,7 @@ pub loop-at-preserved : goal.loop-at-preserved
 loop-at-preserved c =
     let e = (goal.at.loop-at-preserved c).After-line_end-next in (
       walk_next c.args.sheet.now c.requires c.loop-at.roster c.loop-at.at c.loop-at.line c.loop-at.invariant.0 c.loop-at-test.true
-          _ c.line_end-next.ensures c.host_line-made.result c.host_line-made.ensures (sym c.number-number.ensures ∙ c.if-number-ne0.false) _ refl,
+          _ c.line_end-next.ensures c.host_line-made.result c.host_line-made.ensures c.in_default.field-0 c.in_default.is _ refl,
       (further e).1,
     )
 

@@ -1,10 +1,8 @@
 -- `slack_calls::slack_under` meets its contract.
 use Prim.Native.Nat.{ℕ, suc, ◌+◌, ◌*◌, ◌≤◌, ◌<◌, min}
-use native.Mathlib.Nat.{mul-le-mul}
 use native.Mathlib.Numerals.{add-one}
 use native.Mathlib.Omega.{arith}
 use mathlib.Core.Path.{◌≡◌, refl, sym, ap, ap₂, subst, ◌∙◌}
-use mathlib.Core.List.{List}
 use borrow.Author.Rules.{rules}
 use lib.IntN.{sub_ℕ}
 use mir.Syntax.{w64}
@@ -12,46 +10,21 @@ use mir.ValLaws.{to_z-of_z}
 use lib.ListN.{length, get_or}
 use Rattle.gmf.specs.declared.Job.{Job}
 use Rattle.gmf.specs.Machine.{speed, top}
-use Rattle.gmf.specs.Jobs.{hyperperiod, hyperperiod_limit, work, works}
-use Rattle.gmf.specs.Capacity.{sum}
-use Rattle.workload.specs.declared.Share.{Share}
-use Rattle.workload.specs.Load.{totals}
-use Rattle.growing.proofs.Works.{Given}
+use Rattle.gmf.specs.Jobs.{hyperperiod, work}
+use Rattle.growing.proofs.Shares.{given, ticks_are, ticks_most, work_is}
 use Rattle.slack.specs.declared.Slack.{Slack}
 use Rattle.slack.proofs.Tests.{top_some}
 use Rattle.slack.proofs.Results.{slacks}
-use Rattle.slack_calls.proofs.Walk.{most_supply, Walked, Weighed, walk_begin, weigh_all, sum_most, weigh_next, need_few, slack_is, walk_on, walk_end}
+use Rattle.slack_calls.proofs.Walk.{Walked, Weighed, walk_begin, weigh_all, sum_most, weigh_next, need_few, slack_is, walk_on, walk_end}
 use Rattle.slack_calls.proofs.slack_under.Goals.{After-speed_of, Joined-i-steps, then-i-steps, else-i-steps}
 use Rattle.slack_calls.proofs.slack_under.Goals as goal
-
--- ---- What a share says
-
-module _ (s : Share) where
-  given : Given s.machine s.jobs.now
-  given = record { machine = s.machine_in_range; few = s.few; in_range_law = s.jobs_in_range; rising = s.by_rising_id; limited = s.within }
-
-  ticks_are : s.totals.hyperperiod ≡ hyperperiod s.jobs.now
-  unfolding totals
-  ticks_are = ap (λ t. t.hyperperiod) s.found
-
-  work_is : s.totals.work ≡ sum (works s.jobs.now)
-  unfolding totals
-  work_is = ap (λ t. t.work) s.found
-
-  -- What one processor gets done.
-  gets_done : (v : ℕ) → v ≤ 4294967296 → s.totals.hyperperiod * v ≤ most_supply
-  gets_done v h =
-      let within : s.totals.hyperperiod ≤ hyperperiod_limit = omega (arith, ticks_are, s.within) in
-      mul-le-mul within h
-
--- ---- A turn
 
 pub loop-i-init : goal.loop-i-init
 loop-i-init c = walk_begin _ _ (given c.args.share) _ _ c.none_taken-job.ensures
 
 supply_few : (c : After-speed_of) → c.loop-i.supply + c.args.share.totals.hyperperiod * c.speed_of.result < 9223372036854775808
 supply_few c =
-    let done = gets_done c.args.share c.speed_of.result (omega arith) in
+    let done = ticks_most c.args.share c.speed_of.result 4294967296 (omega arith) in
     omega (arith, done, c.loop-i.invariant.bounded, c.requires, c.args.share.machine_in_range.processors.1, c.loop-i-test.true)
 
 pub overflow_add-supply : goal.overflow_add-supply

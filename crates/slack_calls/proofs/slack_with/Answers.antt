@@ -1,8 +1,6 @@
 -- `slack_calls::slack_with` meets its contract.
-use Prim.Native.Nat.{◌-◌}
 use native.Mathlib.Omega.{arith}
-use mathlib.Core.Path.{◌≡◌, refl, sym, ap, ◌∙◌}
-use lib.ListN.{replicate}
+use mathlib.Core.Path.{sym}
 use lib.Seq.{length-take-le}
 use Rattle.std.proofs.lemmas.Result.{err_from_is_err_and}
 use Rattle.planner.proofs.Offers.{taken}
@@ -16,42 +14,32 @@ returns-in_err-offer c =
 
 pub shared_ref_as_front-share : goal.shared_ref_as_front-share
 shared_ref_as_front-share c =
-    let o = c.in_ok-offer.ensures in
-    let t = taken _ _ _ _ _ o.entries o.places _ o.answer in
-    omega (arith, t.with_one_more.size, t.with_one_more.few)
+    let more = (taken _ _ _ _ _ _ c.in_ok-offer.ensures).with_one_more in
+    omega (arith, more.size, more.few)
 
 pub overflow_sub-highest : goal.overflow_sub-highest
-overflow_sub-highest c =
-    let o = c.in_ok-offer.ensures in
-    omega (arith, (taken _ _ _ _ _ o.entries o.places _ o.answer).with_one_more.machine_range.levels)
+overflow_sub-highest c = omega (arith, (taken _ _ _ _ _ _ c.in_ok-offer.ensures).with_one_more.machine_range.levels)
 
 pub slice_bounds-highest-end : goal.slice_bounds-highest-end
-slice_bounds-highest-end c =
-    let o = c.in_ok-offer.ensures in
-    omega (arith, (taken _ _ _ _ _ o.entries o.places _ o.answer).with_one_more.machine_range.processors)
+slice_bounds-highest-end c = omega (arith, (taken _ _ _ _ _ _ c.in_ok-offer.ensures).with_one_more.machine_range.processors)
 
 pub slice_bounds-slack_under-end : goal.slice_bounds-slack_under-end
 slice_bounds-slack_under-end c =
-    let o = c.in_ok-offer.ensures in
-    let t = taken _ _ _ _ _ o.entries o.places _ o.answer in
-    sym (length-take-le c.args.roster.now.machine.processors (replicate 32 (c.args.roster.now.machine.levels - 1)) (omega (arith, t.with_one_more.machine_range.processors)))
+    sym (length-take-le _ _ (omega (arith, (taken _ _ _ _ _ _ c.in_ok-offer.ensures).with_one_more.machine_range.processors)))
 
 pub invariant_of-share : goal.invariant_of-share
 invariant_of-share c =
-    let o = c.in_ok-offer.ensures in
-    let t = taken _ _ _ _ _ o.entries o.places _ o.answer in
-    let one = t.with_one_more in
-    let same = in_places _ _ _ _ _ o.entries o.places _ t in
+    let t = taken _ _ _ _ _ _ c.in_ok-offer.ensures in
+    let more = t.with_one_more in
+    let same = in_places _ _ _ _ _ _ c.in_ok-offer.ensures in
     record {
-      machine_in_range = one.machine_range;
-      few = rw same one.few;
-      jobs_in_range = rw same one.job_ranges;
-      by_rising_id = rw same one.by_id;
-      within = rw same one.within_limit;
+      machine_in_range = more.machine_range;
+      few = rw same more.few;
+      jobs_in_range = rw same more.job_ranges;
+      by_rising_id = rw same more.by_id;
+      within = rw same more.within_limit;
       found = rw same t.totals_are;
     }
 
 pub returns : goal.returns
-returns c =
-    let o = c.in_ok-offer.ensures in
-    with_it _ _ _ _ _ o.entries o.places _ (taken _ _ _ _ _ o.entries o.places _ o.answer) _ c.slack_under.ensures
+returns c = with_it _ _ _ _ _ _ c.in_ok-offer.ensures _ _ c.slack_under.ensures (omega arith)

@@ -6,4 +6,4 @@ use Rattle.desk.proofs.Desk.start.Goals as goal
 
 pub returns : goal.returns
 unfolding at_start
-returns c = ap (λ (r : Roster). record { roster = r; at = 0; line = 1 }) c.empty-roster.ensures
+returns c = ap (λ (r : Roster). record { roster = r; at = 0; line = 1 }) c.empty.ensures

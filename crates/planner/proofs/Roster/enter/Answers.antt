@@ -15,16 +15,13 @@ returns-in_err-offer c =
 
 pub returns-then-is_err : goal.returns-then-is_err
 returns-then-is_err c =
-    let o = c.in_ok-offer.ensures in
-    admit_none _ _ _ _ _ o.entries o.places _ (taken _ _ _ _ _ o.entries o.places _ o.answer) (ap is_err (sym c.judge.ensures) ∙ sym c.is_err.ensures.value ∙ c.if-is_err.true)
+    admit_none _ _ _ _ _ _ c.in_ok-offer.ensures (ap is_err (sym c.judge.ensures) ∙ sym c.is_err.ensures.value ∙ c.if-is_err.true)
 
 pub overflow_add-self : goal.overflow_add-self
 overflow_add-self c =
-    let o = c.in_ok-offer.ensures in
-    let t = taken _ _ _ _ _ o.entries o.places _ o.answer in
-    omega (arith, t.with_one_more.size, t.with_one_more.few)
+    let more = (taken _ _ _ _ _ _ c.in_ok-offer.ensures).with_one_more in
+    omega (arith, more.size, more.few)
 
 pub returns : goal.returns
 returns c =
-    let o = c.in_ok-offer.ensures in
-    admit_some _ _ _ _ _ o.entries o.places _ (taken _ _ _ _ _ o.entries o.places _ o.answer) (ap is_err (sym c.judge.ensures) ∙ sym c.is_err.ensures.value ∙ c.if-is_err.false)
+    admit_some _ _ _ _ _ _ c.in_ok-offer.ensures (ap is_err (sym c.judge.ensures) ∙ sym c.is_err.ensures.value ∙ c.if-is_err.false)
