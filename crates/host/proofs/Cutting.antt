@@ -14,6 +14,7 @@ use Rattle.frame_reader.specs.Lines.{lines_of, length_of_line, line_end}
 use Rattle.frame_reader.proofs.Lines.{feed, is_feed}
 use Rattle.frame_reader.proofs.Results.{reads}
 
+-- Where the first 0A is, or at the end of the sheet, the first line ends.
 abbrev LineIs : List ℕ → Type 0
 LineIs rest = (i : ℕ) → IsFirstMatchOrLen is_feed rest i → length_of_line rest ≡ min (i + 1) (length rest)
 
