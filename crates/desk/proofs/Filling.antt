@@ -55,8 +55,9 @@ module _ (number place : ℕ) (page : List ℕ) where
 
   pub settled_accepted : (answer : Result ℕ Refusal) (count : ℕ) → answer ≡ Ok count → (r : Roster)
       → record { roster = r; page = page; end = place + count } ≡ settled number place (reply answer r)
-  unfolding number_of
-  settled_accepted answer count a r = ap (λ (q : Result ℕ Refusal). settled number place (reply q r)) (sym a)
+  settled_accepted answer count a r =
+      ap (λ (n : ℕ). settled number place record { number = n; roster = r; page = page; count = count }) (sym (number_rule.accepted count))
+      ∙ ap (λ (q : Result ℕ Refusal). settled number place (reply q r)) (sym a)
 
   refused_as : (n : ℕ) → (n ≡ 0 → ⊥) → (r : Roster)
       → record {
@@ -71,10 +72,10 @@ module _ (number place : ℕ) (page : List ℕ) where
       → written ≡ (put_on page place (line_of (refusal_bytes number (refusal_number refusal)))).count
       → exit ≡ (put_on page place (line_of (refusal_bytes number (refusal_number refusal)))).page
       → (r : Roster) → record { roster = r; page = exit; end = place + written } ≡ settled number place (reply answer r)
-  unfolding number_of
   settled_refused answer refusal a written exit n p r =
       ap₂ (λ (k : ℕ) (q : List ℕ). record { roster = r; page = q; end = place + k }) n p
       ∙ refused_as (refusal_number refusal) (number_rule.never_0 refusal) r
+      ∙ ap (λ (k : ℕ). settled number place record { number = k; roster = r; page = page; count = 0 }) (sym (number_rule.refused ℕ refusal))
       ∙ ap (λ (q : Result ℕ Refusal). settled number place (reply q r)) (sym a)
 
 -- What a line's call writes ends on the page.
