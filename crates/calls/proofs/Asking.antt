@@ -54,7 +54,7 @@ module _ (r : Roster) (ask : Asked) (page : List ℕ) (place : ℕ) where
           ap (λ (n : ℕ). record { number = n; roster = roster; page = page; count = 0 }) (number_rule.accepted 0 ∙ sym (number_rule.accepted accepted))
       without_count (Err refusal) roster =
           ap (λ (n : ℕ). record { number = n; roster = roster; page = page; count = 0 })
-              (number_rule.refused ℕ refusal ∙ sym (number_rule.refused (Unit {0}) refusal))
+          (number_rule.refused ℕ refusal ∙ sym (number_rule.refused (Unit {0}) refusal))
 
   -- A call that files a frame.
   pub as_filed : (given : Result ℕ Refusal) (exit : List ℕ) (reply : Filed) → filed_by given exit ≡ reply

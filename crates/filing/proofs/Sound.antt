@@ -74,7 +74,6 @@ module _ (r : Roster) (s : IsSound r) where
   some_plan = ap is_some planned_is
 
   module _ (p : Plan) (p-is : Some p ≡ planned M jobs) where
-
     abbrev plan : List ℕ
     plan = found.0
 

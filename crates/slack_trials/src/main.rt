@@ -38,12 +38,14 @@ fn asked(
 fn offered(rt: &impl Print, roster: &Roster, frame: Option<Frame>) -> io::Result<()> {
     match frame {
         Some(Frame::Admit { id, cost, period }) => asked(rt, roster, id, cost, period, period),
-        Some(Frame::AdmitDue {
-            id,
-            cost,
-            period,
-            deadline,
-        }) => asked(rt, roster, id, cost, period, deadline),
+        Some(
+            Frame::AdmitDue {
+                id,
+                cost,
+                period,
+                deadline,
+            },
+        ) => asked(rt, roster, id, cost, period, deadline),
         _ => Ok(()),
     }
 }
