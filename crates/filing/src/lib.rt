@@ -6,6 +6,7 @@ ghost use Rattle.filing.specs.Plans.{filed_by, plan_reply};
 
 use frame_writer::write_plan;
 use growing::grow;
+use line_writer::NoRoom;
 use planner::Roster;
 use power_tables::total_power;
 use refusals::Refusal;
@@ -30,8 +31,8 @@ pub fn file_plan(roster: &Roster, page: &mut [u8], place: usize) -> Result<usize
         page,
         place,
     );
-    if written.is_err() {
-        return Err(Refusal::NoRoom);
+    match written {
+        Ok(()) => Ok(2 * (12 + m) + 1),
+        Err(NoRoom) => Err(Refusal::NoRoom),
     }
-    Ok(2 * (12 + m) + 1)
 }

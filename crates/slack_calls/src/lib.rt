@@ -10,6 +10,7 @@ ghost use Rattle.slack_calls.specs.Slacks.{slack_under, slack_reply, slack_to};
 
 use accessors::{speed_of, top_speed, work_of};
 use growing::{grow, steps_of};
+use line_writer::NoRoom;
 use planner::Roster;
 use refusals::Refusal;
 use selection::{next_job, none_taken};
@@ -73,10 +74,10 @@ pub fn file_slack(roster: &Roster, page: &mut [u8], place: usize) -> Result<usiz
     // some plan passes for a roster that keeps its rules
     let plan = grow(share).unwrap();
     let slacks = slack_under(share, &plan.levels[..m]);
-    if write_slack(slacks.ticks, slacks.remainders, m, page, place).is_err() {
-        return Err(Refusal::NoRoom);
+    match write_slack(slacks.ticks, slacks.remainders, m, page, place) {
+        Ok(()) => Ok(2 * (1 + 9 * m) + 1),
+        Err(NoRoom) => Err(Refusal::NoRoom),
     }
-    Ok(2 * (1 + 9 * m) + 1)
 }
 
 // The slack with a job added and every core at top speed: what could still be carried, or how much is too much. The roster stays.

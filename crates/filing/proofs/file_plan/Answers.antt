@@ -1,7 +1,7 @@
 -- `filing::file_plan` meets its contract.
 use mathlib.Core.Path.{refl, sym, ap, ap₂, ◌∙◌}
 use lib.ListN.{take}
-use Rattle.std.specs.Prelude.{is_some}
+use Rattle.std.specs.Prelude.{is_some, is_err}
 use Rattle.std.proofs.lemmas.Result.{err_from_is_err_and}
 use Rattle.gmf.specs.declared.Machine.{Machine}
 use Rattle.gmf.specs.Power.{total}
@@ -38,9 +38,9 @@ total_power-power-requires-clause-powers_bound c =
     let grown = sym c.unwrap-plan.ensures ∙ c.grow.ensures ∙ ap₂ planned c.in_ok-share.ensures.machine c.in_ok-share.ensures.jobs in
     power_range c.args.roster.now sound c.unwrap-plan.result grown
 
-pub returns-then-is_err : goal.returns-then-is_err
+pub returns-in-Err : goal.returns-in-Err
 unfolding plan_reply filed
-returns-then-is_err c =
+returns-in-Err c =
     let sound : IsSound c.args.roster.now = (share_open _ _ c.in_ok-share.ensures).0 in
     let grown = sym c.unwrap-plan.ensures ∙ c.grow.ensures ∙ ap₂ planned c.in_ok-share.ensures.machine c.in_ok-share.ensures.jobs in
     let levels = ap (λ (M : Machine). take M.processors c.unwrap-plan.result.levels) c.in_ok-share.ensures.machine in
@@ -48,13 +48,13 @@ returns-then-is_err c =
     (put_at c.args.page.now c.args.place _ c.write_plan-written.ensures refl refl
     (line_is c.args.roster.now sound c.unwrap-plan.result grown c.in_ok-share.ensures.places _ _ _ _ _ refl refl (c.total_power-power.ensures ∙ ap (total c.args.roster.now.table) levels) refl
     levels))
-    (sym c.is_err.ensures.value ∙ c.if-is_err.true)
+    (ap is_err c.in-Err.is)
     ∙ filed_is c.args.roster.now sound c.unwrap-plan.result grown c.args.page.now c.args.place
     ∙ reply_open filed c.args.roster.now c.in_ok-share.ensures.entries c.in_ok-share.ensures.places c.args.page.now c.args.place _ (totalled _ _ c.in_ok-share.ensures.totals)
 
-pub returns : goal.returns
+pub returns-in-Ok : goal.returns-in-Ok
 unfolding plan_reply filed
-returns c =
+returns-in-Ok c =
     let sound : IsSound c.args.roster.now = (share_open _ _ c.in_ok-share.ensures).0 in
     let grown = sym c.unwrap-plan.ensures ∙ c.grow.ensures ∙ ap₂ planned c.in_ok-share.ensures.machine c.in_ok-share.ensures.jobs in
     let levels = ap (λ (M : Machine). take M.processors c.unwrap-plan.result.levels) c.in_ok-share.ensures.machine in
@@ -63,7 +63,7 @@ returns c =
     (put_at c.args.page.now c.args.place _ c.write_plan-written.ensures refl refl
     (line_is c.args.roster.now sound c.unwrap-plan.result grown c.in_ok-share.ensures.places _ _ _ _ _ refl refl (c.total_power-power.ensures ∙ ap (total c.args.roster.now.table) levels) refl
     levels))
-    (sym c.is_err.ensures.value ∙ c.if-is_err.false)
+    (ap is_err c.in-Ok.is)
     (ap (λ (M : Machine). frame_length M.processors) c.in_ok-share.ensures.machine
     ∙ ap frame_length (sym (size_is c.args.roster.now sound c.unwrap-plan.result grown))
     ∙ sym (line_size _ _ f.0 f.1))
