@@ -25,7 +25,8 @@ pub fn steps_of(processors: u8, held: usize) -> usize
 }
 
 // Grows the plan: step by step one processor more joins, and the slowest of those that have joined is raised while the test fails. There is none
-// where a test fails with all of these at the top. Both sides of a test stand multiplied by H × Q, as in the definition.
+// where a test fails with all of these at the top. Both sides of a test stand multiplied by H × Q, as in the definition. The form is 01's: nested
+// loops, left by label.
 pub fn grow(share: Share<'_>) -> Option<Plan>
     ensures { result ≡ planned share.entry.machine share.entry.jobs.now }
 {

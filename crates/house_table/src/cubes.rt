@@ -1,4 +1,4 @@
-// The house table: the cubes of 0 to 256.
+// The house table: the cubes of 0 to 256. The form is 01's: a constant of 257 numbers.
 ghost use Rattle.std.specs.Prelude.{◌≡◌};
 ghost use Rattle.gmf.specs.Power.{cubes};
 

@@ -29,7 +29,8 @@ pub struct Roster {
     pub jobs: [Job; 64],
 }
 
-// What a roster is found to be: one that breaks a rule, one with no machine, or one with a machine and the totals of its jobs.
+// What a roster is found to be: one that breaks a rule, one with no machine, or one with a machine and the totals of its jobs. These are three
+// states, and a call to open a machine wants the second, so that neither an Option nor a Result is plainer.
 #[derive(Clone, Copy)]
 pub enum Condition {
     Damaged,
@@ -131,7 +132,8 @@ impl Roster {
         }
     }
 
-    // Opens a machine, with the default table.
+    // Opens a machine, with the default table. The numbers of this call and of the others come as a host sends them, 64 bits wide: no struct of a
+    // machine or of a job can hold them before their ranges are looked at.
     pub fn open_machine(mut self, processors: u64, levels: u64, lowest: u64, step: u64) -> Reply
         ensures { result ≡ reply_to self (OpenMachine processors levels lowest step) }
     {

@@ -49,6 +49,7 @@ fn slack_under(share: Share<'_>, levels: &[u8]) -> Slacks
     let mut supply: u64 = 0;
     let mut taken: u64 = 0;
     let mut job = none_taken();
+    // By index: of what is written through `iter_mut().zip(..)` a proof knows the length alone.
     for (i, level) in levels.iter().enumerate() {
         supply += hyperperiod as u64 * speed_of(machine, *level) as u64;
         let mut demand = share.totals.work;

@@ -1,4 +1,4 @@
-// Rosters whose fields are set by hand.
+// Rosters whose fields are set by hand. Each function sets another part: what they share is one line, the struct update.
 use crate::calls;
 use crate::compare::compare;
 use gmf::{Job, Machine};
