@@ -76,7 +76,7 @@ fn job_of(id: u64, cost: u64, period: u64, deadline: u64) -> Result<Job, Refusal
 }
 
 impl Roster {
-    // The roster of all zeros.
+    // The roster of all zeros. They are written out: of `Machine::default()` and `Job::default()` a proof knows field by field, which is longer.
     pub fn empty() -> Roster
         ensures { result ≡ empty_roster }
     {
