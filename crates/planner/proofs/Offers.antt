@@ -287,7 +287,7 @@ module _ (id cost period deadline : ℕ) where
   offer_opened : (model : Model) → offer model id cost period deadline ≡ accepted Closed → ⊥
   unfolding offer on_machine offered is_open_outcome is_opened
   offer_opened Closed e = never_refused NoMachine Closed e
-  offer_opened (Opened M table jobs) e =
+  offer_opened (Opened M table _) e =
       let short = passed _ HyperperiodTooLong _ (passed _ PlacesFull _ (passed _ IdHeld _ (passed _ JobNumbers _ e).1).1).1 in
       false≢true (sym (ap is_open_outcome short.1))
 

@@ -1,9 +1,7 @@
 -- `planner::Roster::enter` meets its contract.
 use native.Mathlib.Omega.{arith}
-use mathlib.Core.Path.{◌≡◌, sym, ap, ◌∙◌}
+use mathlib.Core.Path.{sym, ap, ◌∙◌}
 use Rattle.std.specs.Prelude.{is_err}
-use borrow.Author.Rules.{rules}
-use lib.ListN.{length}
 use Rattle.std.proofs.lemmas.Result.{err_from_is_err_and}
 use Rattle.planner.proofs.Offers.{admit_refused, taken, admit_none, admit_some}
 use Rattle.planner.proofs.Roster.enter.Goals as goal
