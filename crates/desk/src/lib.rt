@@ -12,13 +12,11 @@ ghost use Rattle.calls.specs.Lines.{count_in};
 ghost use Rattle.desk.specs.Pages.{at_start, settled, filled_on, fill_lines, fill_too_long, fill_page};
 
 use calls::{call_frame, malformed};
-use frame_reader::{line_end, read_line};
+use frame_reader::{LONGEST_SHEET, line_end, read_line};
 use planner::Roster;
 use refusals::Refusal;
 
-// The longest sheet; the longest frame out with its 0A.
-const LONGEST_SHEET: usize = 65536;
-
+// The longest frame out with its 0A.
 const LONGEST_FRAME: usize = 579;
 
 // Where the desk is in its sheet: the roster, the position of the next line, and its number.

@@ -13,13 +13,12 @@ ghost use Rattle.host.specs.Imports.{imported_on};
 
 use calls::host_line;
 use filing::file_plan;
+use frame_reader::LONGEST_SHEET;
 use frame_writer::{write_machine, write_refusal};
 use imports::find_machine;
 use line_writer::NoRoom;
 use planner::Roster;
 use refusals::{Refusal, number_of};
-
-const LONGEST_SHEET: usize = 65536;
 
 // Why a sheet has no roster at its end: the refusal, and the number of the line that it refuses, 0 for the sheet itself.
 #[derive(Clone, Copy)]

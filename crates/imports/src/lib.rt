@@ -21,6 +21,7 @@ pub fn find_machine(processors: u64, list: &[u8]) -> Result<Machine, Refusal>
         levels,
         lowest,
         step,
+        // a `match` and no `From`: neither error is this crate's
     } = match read_clock(list) {
         Ok(clock) => clock,
         Err(ListError::NoList) => return Err(Refusal::FrequencyList),

@@ -20,7 +20,8 @@ use workload::{Share, Totals, judge, load_of};
 // The places of a roster.
 const PLACES: usize = 64;
 
-// A machine, or none, its power table, and the jobs held, by rising id. What is not used is 0.
+// A machine, or none, its power table, and the jobs held, by rising id. What is not used is 0. A studio keeps it in memory of its own, and sets its
+// fields by hand: so there are arrays of fixed size, and no invariant.
 #[derive(Clone, Copy, Debug, PartialEq, Eq)]
 pub struct Roster {
     pub machine: Machine,
@@ -76,25 +77,15 @@ fn job_of(id: u64, cost: u64, period: u64, deadline: u64) -> Result<Job, Refusal
 }
 
 impl Roster {
-    // The roster of all zeros. They are written out: of `Machine::default()` and `Job::default()` a proof knows field by field, which is longer.
+    // The roster of all zeros.
     pub fn empty() -> Roster
         ensures { result ≡ empty_roster }
     {
         Roster {
-            machine: Machine {
-                processors: 0,
-                levels: 0,
-                lowest: 0,
-                step: 0,
-            },
-            table: [0u32; 32],
+            machine: Machine::default(),
+            table: [0; 32],
             held: 0,
-            jobs: [Job {
-                id: 0,
-                cost: 0,
-                period: 0,
-                deadline: 0,
-            }; 64],
+            jobs: [Job::default(); 64],
         }
     }
 
@@ -137,9 +128,8 @@ impl Roster {
     pub fn open_machine(mut self, processors: u64, levels: u64, lowest: u64, step: u64) -> Reply
         ensures { result ≡ reply_to self (OpenMachine processors levels lowest step) }
     {
-        let answer = self.open(processors, levels, lowest, step);
         Reply {
-            answer,
+            answer: self.open(processors, levels, lowest, step),
             roster: self,
         }
     }
@@ -174,9 +164,8 @@ impl Roster {
     pub fn replace_table(mut self, values: &[u32]) -> Reply
         ensures { result ≡ reply_to self (ReplaceTable values.now) }
     {
-        let answer = self.replace(values);
         Reply {
-            answer,
+            answer: self.replace(values),
             roster: self,
         }
     }
@@ -197,9 +186,8 @@ impl Roster {
     pub fn admit(mut self, id: u64, cost: u64, period: u64, deadline: u64) -> Reply
         ensures { result ≡ reply_to self (Admit id cost period deadline) }
     {
-        let answer = self.enter(id, cost, period, deadline);
         Reply {
-            answer,
+            answer: self.enter(id, cost, period, deadline),
             roster: self,
         }
     }
@@ -212,6 +200,7 @@ impl Roster {
         if judge(Some(offer.totals), self.machine.processors).is_err() {
             return Err(Refusal::NoPlan);
         }
+        // in two steps: an array is not stored from field to field
         let jobs = offer.jobs;
         self.held += 1;
         self.jobs = jobs;
@@ -244,9 +233,8 @@ impl Roster {
     pub fn retire(mut self, id: u64) -> Reply
         ensures { result ≡ reply_to self (Retire id) }
     {
-        let answer = self.leave(id);
         Reply {
-            answer,
+            answer: self.leave(id),
             roster: self,
         }
     }

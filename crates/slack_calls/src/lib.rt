@@ -18,7 +18,7 @@ use slack::{Slack, slack_of};
 use slack_writer::write_slack;
 use workload::Share;
 
-// The slack of tests 1 to m, with zeros after it.
+// The slack of tests 1 to m, with zeros after it. Two lists, as the reply of the call has them.
 #[derive(Clone, Copy, Debug, PartialEq, Eq)]
 pub struct Slacks {
     pub ticks: [i64; 32],

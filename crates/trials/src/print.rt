@@ -46,9 +46,9 @@ pub fn machine(rt: &impl Print, roster: &Roster) -> io::Result<()> {
     rest(rt, all_zero(&table[used..]))
 }
 
-// The first jobs of all.
-fn first_jobs(rt: &impl Print, jobs: [Job; 64], held: usize) -> io::Result<()> {
-    for job in jobs.iter().take(held) {
+// Each job as id, C, T and D.
+fn first_jobs(rt: &impl Print, jobs: &[Job]) -> io::Result<()> {
+    for job in jobs {
         let Job {
             id,
             cost,
@@ -65,12 +65,11 @@ fn unused_from(roster: &Roster, held: usize) -> bool {
     roster.jobs.get(held..).is_none_or(unused)
 }
 
-// The jobs held, each as id, C, T and D, and what is after them.
+// The jobs held, and what is after them.
 pub fn jobs(rt: &impl Print, roster: &Roster) -> io::Result<()> {
-    let jobs = roster.jobs;
     let held = usize::from(roster.held).min(64);
     print!(rt; "jobs {held}:")?;
-    first_jobs(rt, jobs, held)?;
+    first_jobs(rt, &roster.jobs[..held])?;
     rest(rt, unused_from(roster, held))
 }
 
