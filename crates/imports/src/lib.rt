@@ -17,11 +17,11 @@ pub fn find_machine(processors: u64, list: &[u8]) -> Result<Machine, Refusal>
     if !one_to(32, processors) {
         return Err(Refusal::Processors);
     }
+    // a `match` and no `From`: neither error is this crate's
     let Clock {
         levels,
         lowest,
         step,
-        // a `match` and no `From`: neither error is this crate's
     } = match read_clock(list) {
         Ok(clock) => clock,
         Err(ListError::NoList) => return Err(Refusal::FrequencyList),
