@@ -104,8 +104,9 @@ pub fn call_line(roster: Roster, line: &[u8], page: &mut [u8], place: usize) -> 
 }
 
 // Whether a frame wants a frame on a page.
-fn wants_frame(frame: &Option<Frame>) -> bool
-    ensures { result ≡ wants_frame (asked_as frame.now) }
+#[tactic(auto, unfolding(crate::specs::Lines::asked_as, crate::specs::Lines::wants_frame))]
+fn wants_frame(frame: Option<Frame>) -> bool
+    ensures { result ≡ wants_frame (asked_as frame) }
 {
     let Some(frame) = frame else {
         return false;
@@ -118,7 +119,7 @@ pub fn host_line(roster: Roster, line: &[u8]) -> LineAnswer
     ensures { answered_on result [] ≡ passed_over roster (asked line.now) }
 {
     let frame = read_line(line);
-    if wants_frame(&frame) {
+    if wants_frame(frame) {
         return LineAnswer {
             answer: Ok(0),
             roster,
