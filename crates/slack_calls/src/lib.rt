@@ -6,7 +6,7 @@ ghost use Rattle.std.specs.Prelude.{◌≡◌, ◌<◌, length};
 ghost use Rattle.std.proofs.Math.IntN.{sub_ℕ};
 ghost use Rattle.slack.specs.Slack.{slack_of};
 ghost use Rattle.filing.specs.Plans.{filed_by};
-ghost use Rattle.slack_calls.specs.Slacks.{slack_under, slack_reply, slack_to};
+ghost use Rattle.slack_calls.specs.Slacks.{slack_under, slack_reply, slack_to, ticks_in, remainders_in};
 
 use accessors::{speed_of, top_speed, work_of};
 use growing::{grow, steps_of};
@@ -100,4 +100,18 @@ pub fn slack_with(
     };
     let highest = [machine.levels - 1; 32];
     Ok(slack_under(share, &highest[..machine.processors as usize]))
+}
+
+// The slacks that such an answer gives, for whoever wants numbers in any case: a refusal gives zeros.
+pub fn slacks_in(answer: Result<Slacks, Refusal>) -> Slacks
+    ensures ticks { result.ticks ≡ ticks_in answer }
+    ensures remainders { result.remainders ≡ remainders_in answer }
+{
+    match answer {
+        Ok(slacks) => slacks,
+        Err(_) => Slacks {
+            ticks: [0; 32],
+            remainders: [0; 32],
+        },
+    }
 }

@@ -1,6 +1,6 @@
 // The line of a slack answer.
 use refusals::{Refusal, number_of};
-use slack_calls::Slacks;
+use slack_calls::{Slacks, slacks_in};
 use std::fmt;
 
 // The number of an answer and the 32 entries: the ticks and the remainder of each test, zeros where it is refused.
@@ -12,10 +12,7 @@ impl fmt::Display for Slack {
         let Slack(slack) = *self;
         let number = number_of(&slack);
         write!(f, "{number}")?;
-        let slacks = slack.unwrap_or(Slacks {
-            ticks: [0; 32],
-            remainders: [0; 32],
-        });
+        let slacks = slacks_in(slack);
         for (ticks, remainder) in slacks.ticks.iter().zip(slacks.remainders.iter()) {
             write!(f, " {ticks} {remainder}")?;
         }
