@@ -16,7 +16,8 @@ pub fn room<const N: usize>() -> [u8; N]
     [0; N]
 }
 
-// Reads to the end of the input or of the room; how many bytes were read. They are what the input had next, and where they leave room, all that it had.
+// Reads to the end of the input or of the room; how many bytes were read. Where the reader's bytes are known, they are what it had next, and where they leave
+// room, all that it had. Of standard input the library knows none.
 pub fn read_input<R: Read>(input: &mut R, sheet: &mut [u8]) -> io::Result<usize>
     ensures bound { ReadsAtMost result sheet.new }
     ensures bytes { IfOk result (λ n. Consumes (R.remaining input.old) (R.remaining input.new) (take n sheet.new)) }

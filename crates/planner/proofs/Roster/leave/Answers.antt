@@ -47,14 +47,14 @@ overflow_sub-self c =
     let entries : length c.args.self.now.table ≡ 32 = search rules in
     let places : length c.args.self.now.jobs ≡ 64 = search rules in
     let sound : IsSound c.args.self.now = (share_open _ _ c.in_ok-share.ensures).0 in
-    leave_some _ entries places sound _ (sym c.if-not-one_to.ensures) (found_there _ _ c.in_ok-share.ensures.jobs _ _ c.in-Ok.ensures).0
+    omega (arith, leave_some _ entries places sound _ (sym c.if-not-one_to.ensures) (found_there _ _ c.in_ok-share.ensures.jobs _ _ c.in-Ok.ensures).0)
 
 pub slice_bounds-take_out-end : goal.slice_bounds-take_out-end
 slice_bounds-take_out-end c =
     let entries : length c.args.self.now.table ≡ 32 = search rules in
     let places : length c.args.self.now.jobs ≡ 64 = search rules in
     let sound : IsSound c.args.self.now = (share_open _ _ c.in_ok-share.ensures).0 in
-    sound.places
+    omega (arith, sound.places)
 
 pub returns : goal.returns
 returns c =

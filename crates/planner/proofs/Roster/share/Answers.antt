@@ -12,7 +12,7 @@ pub shared_ref_as_front-result : goal.shared_ref_as_front-result
 shared_ref_as_front-result c =
     let entries : length c.args.self.now.table ≡ 32 = search rules in
     let places : length c.args.self.now.jobs ≡ 64 = search rules in
-    (is_open _ _ entries places (sym c.in-Open.ensures)).0.places
+    omega (arith, (is_open _ _ entries places (sym c.in-Open.ensures)).0.places)
 
 pub invariant_of-result : goal.invariant_of-result
 invariant_of-result c =
